@@ -1,5 +1,5 @@
 //! Owned text.
-ghost use Rattle.std.specs.Prelude.{◌≡◌, IfOk};
+ghost use Rattle.std.specs.Prelude.{◌≡◌, IfOk, string_bytes};
 
 use crate::OutOfMemory;
 use std::alloc::Global;
@@ -27,6 +27,12 @@ impl Text {
         Ok(Text {
             inner: String::from_str(alloc, text)?,
         })
+    }
+
+    pub(crate) fn from_string(inner: String) -> Text
+        ensures { result ≡ string_bytes inner }
+    {
+        Text { inner }
     }
 
     /// Its characters.

@@ -1,0 +1,4 @@
+pub mod Joined
+pub mod Normal
+pub mod Tables
+pub mod Ways

@@ -1,0 +1,5 @@
+pub mod Causes
+pub mod Entry
+pub mod Files
+pub mod Objects
+pub mod Path
