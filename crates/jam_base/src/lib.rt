@@ -25,3 +25,6 @@ pub use path::ModulePath;
 pub use place::{Place, place_of};
 pub use steps::Steps;
 pub use text::Text;
+
+#[cfg(test)]
+mod tests;
