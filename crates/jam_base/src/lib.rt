@@ -1,6 +1,7 @@
 //! What the tool meets outside itself, and the plain types that all its layers share.
 #![tactic(auto)]
 
+mod edge;
 mod entry;
 mod list;
 mod mem_folder;
@@ -14,6 +15,7 @@ mod schedule;
 mod steps;
 mod text;
 
+pub use edge::{Edge, FunctionRef};
 pub use entry::EntryName;
 pub use list::List;
 pub use mem_folder::MemFolder;
