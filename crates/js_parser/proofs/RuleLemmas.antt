@@ -64,6 +64,9 @@ not_both : (b : Bool) → not (b && true) ≡ true → b ≡ false
 not_both true h = sym h
 not_both false h = refl
 
+pub both_not : (b : Bool) → b ≡ false → not (b && true) ≡ true
+both_not b h = ap (λ (d : Bool). not (d && true)) h
+
 pub call_view : (room : ℕ) (p : Place) (x : Tall Expr) (rest : List Piece) → Reads p ((expr x.node).line rest) → CallAt room x → CallView p x rest
 call_view room p x rest r w = by_kind (kind x.node)
   where

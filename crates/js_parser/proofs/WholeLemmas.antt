@@ -1,13 +1,15 @@
 -- A tree that spells the text, and its pieces read from the start.
-use Rattle.std.proofs.Common.{◌≡◌, ℕ, ◌≤◌, List, [], ◌∷◌, length, sym, subst, refl, Result}
+use Rattle.std.proofs.Common.{◌≡◌, ℕ, ◌≤◌, ◌<◌, arith, Ok, Err, IfErr, List, [], ◌∷◌, length, sym, subst, refl, Result}
 use Rattle.js_tree.specs.Lexing.{Place, LexesTo, IsTrivia, start_of}
 use Rattle.js_tree.specs.Spelling.{Piece, Tok, Must, Ahead, AreFit, tokens, stmts, stmts_height}
 use Rattle.js_tree.specs.Spells.{Spells, limit}
 use Rattle.js_tree.specs.declared.tree.Stmt.{Stmt}
 use Rattle.js_tree.specs.declared.tree.Tree.{Tree}
+use Rattle.js_parser.specs.Answers.{IsTree, TellsTooLarge, IsPlaced, IsUnspelled}
 use Rattle.js_parser.specs.Nodes.{StmtsAt, Closes}
-use Rattle.js_parser.specs.Reading.{Reads, Read, OnlyRead, Gives}
+use Rattle.js_parser.specs.Reading.{Reads, Read, OnlyRead, Gives, Refuses}
 use Rattle.js_parser.specs.declared.fault.ParseFault.{ParseFault}
+use Rattle.js_parser.specs.declared.fault.ParseFault.TheVariants as fault
 use Rattle.js_parser.specs.declared.tall.Tall.{Tall}
 
 to_reads : (ps : List Piece) (p q : Place) → LexesTo p (tokens ps) q → IsTrivia q.left → AreFit ps → Reads p ps
@@ -44,3 +46,23 @@ only_body text start m tree result e s only =
     let r = to_reads (stmts tree.body []) (start_of text) l.0 l.1 l.2 s.well.fit in
     only (record { node = tree.body; height = stmts_height tree.body }) [] (subst (λ (p : Place). Reads p (stmts tree.body [])) (sym e) r)
     (record { height = refl; fits = s.well.depth }) tt
+
+-- a text within the limit is never too large
+pub not_too_large : (text : List ℕ) (result : Result Tree ParseFault) → length text ≤ limit → IfErr result (Refuses (start_of text)) → TellsTooLarge text result
+not_too_large text result within refuses = record {
+  over = λ above. absurd (omega arith);
+  only = λ n e. absurd (subst (λ (r : Result Tree ParseFault). IfErr r (Refuses (start_of text))) e refuses);
+}
+
+pub placed : (text : List ℕ) (result : Result Tree ParseFault) → IfErr result (Refuses (start_of text)) → IsPlaced text result
+placed text result refuses at e = subst (λ (r : Result Tree ParseFault). IfErr r (Refuses (start_of text))) e refuses
+
+pub unspelled : (text : List ℕ) (result : Result Tree ParseFault) → ((tree : Tree) → Spells text tree → IsTree result tree) → IsUnspelled text result
+unspelled text result only at e tree s = subst (λ (r : Result Tree ParseFault). IsTree r tree) e (only tree s)
+
+-- a text over the limit
+pub too_large : (text : List ℕ) → limit < length text → TellsTooLarge text (Err (fault.TooLarge (length text)))
+too_large text above = record { over = λ _. refl; only = λ n e. (above, sym (length_of e)) }
+  where
+    length_of : {n : ℕ} → ◌≡◌ {A = Result Tree ParseFault} (Err (fault.TooLarge (length text))) (Err (fault.TooLarge n)) → length text ≡ n
+    length_of e = cc

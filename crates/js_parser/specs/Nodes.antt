@@ -19,9 +19,9 @@ use Rattle.js_parser.specs.Reading.{Read, OnlyRead, Moves}
 abbrev pub max : ℕ → ℕ → ℕ
 max = greater
 
--- an expression that holds at least as tightly as the rank, no taller than the room, with its height
-pub record WellAt (rank room : ℕ) (x : Tall Expr) : Type 0 where
-  pub rank : rank ≤ (expr x.node).rank
+-- an expression that holds at least as tightly as the level, no taller than the room, with its height
+pub record WellAt (level room : ℕ) (x : Tall Expr) : Type 0 where
+  pub rank : level ≤ (expr x.node).rank
   pub height : x.height ≡ (expr x.node).height
   pub fits : x.height ≤ room
 

@@ -113,14 +113,10 @@ impl<S: Fn(Global, &mut Lexer<'_>, u32) -> Result<Tall<Items<Stmt>>, ParseFault>
         if room == 0 {
             return Err(lexer.refusal());
         }
-        let Tall {
-            node: function,
-            height,
-        } = self.function(lexer, room - 1)?;
+        let Tall { node, height } = self.function(lexer, room - 1)?;
+        let function = Boxed::new(self.alloc, node)?;
         Ok(Tall {
-            node: Stmt::Fun {
-                function: Boxed::new(self.alloc, function)?,
-            },
+            node: Stmt::Fun { function },
             height: height + 1,
         })
     }
