@@ -1,7 +1,6 @@
 -- What is said of the next token, in the pieces and at the place.
-use Rattle.std.proofs.Common.{◌≡◌, ℕ, Bool, true, List, [], ◌∷◌, ◌∙◌, length}
-use Rattle.js_tree.specs.Kinds.{kind}
-use Rattle.js_tree.specs.Lexing.{Place, Next}
+use Rattle.std.proofs.Common.{ℕ, Bool, List, [], ◌∷◌, ◌∙◌, length}
+use Rattle.js_tree.specs.Lexing.{Place}
 use Rattle.js_tree.specs.Spelling.{Piece, Tok, Must, Ahead, Holds, first}
 use Rattle.js_parser.proofs.CutLemmas.{no_token}
 use Rattle.js_parser.proofs.TokenLemmas.{same, same_kind}

@@ -1,5 +1,5 @@
 -- The next token of a text is one thing, and it ends where a character ends.
-use Rattle.std.proofs.Common.{◌≡◌, ℕ, ◌+◌, ◌-◌, ◌<◌, ◌≤◌, true, false, List, [], length, take, drop, get_or, refl, sym, ap, ◌∙◌, subst, arith, Option, Some, None, le_refl, nat_eq, IsTrue, ◌↔◌}
+use Rattle.std.proofs.Common.{◌≡◌, ℕ, ◌+◌, ◌-◌, ◌<◌, ◌≤◌, true, List, [], length, take, drop, get_or, sym, ap, ◌∙◌, subst, arith, Option, Some, None, le_refl, nat_eq, IsTrue, ◌↔◌}
 use Rattle.std.proofs.Math.Seq.{take-length, drop-length}
 use Rattle.std.proofs.lemmas.Bool.Decides.{nat_tests}
 use Rattle.std.proofs.lemmas.List.{get_or-take, length-take-le, length-drop, get_or-drop}

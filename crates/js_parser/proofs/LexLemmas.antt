@@ -1,11 +1,11 @@
 -- What stands at the front of a text is one thing.
-use Rattle.std.proofs.Common.{◌≡◌, ℕ, ◌+◌, ◌<◌, ◌≤◌, Bool, true, false, List, [], ◌∷◌, length, take, drop, get_or, refl, sym, ap, ◌∙◌, subst, arith, ⊎_elim, true≢false, Option, Some}
+use Rattle.std.proofs.Common.{◌≡◌, ℕ, ◌<◌, ◌≤◌, true, false, List, [], ◌∷◌, length, take, get_or, refl, sym, ap, ◌∙◌, subst, arith, ⊎_elim, true≢false, Option, Some}
 use Rattle.std.proofs.lemmas.Bool.{cases_order}
 use Rattle.std.proofs.lemmas.Bool.Decides.{nat_tests}
 use Rattle.std.proofs.lemmas.List.{get_or-take, length-take-le}
 use Rattle.js_tree.specs.Characters.{is_part, is_start, is_mark}
 use Rattle.js_tree.specs.Kinds.{kind_of}
-use Rattle.js_tree.specs.Lexing.{is_word, Longest, Each, IsIdentifier, IsMark, IsOf, Reaches, Stands}
+use Rattle.js_tree.specs.Lexing.{is_word, Longest, IsIdentifier, IsMark, IsOf, Stands}
 use Rattle.js_tree.specs.declared.token.TokenClass.{TokenClass}
 use Rattle.js_tree.specs.declared.token.TokenClass.TheVariants as class
 use Rattle.js_parser.specs.Scanning.{IsFront, front_of}
@@ -128,6 +128,7 @@ no_front text mark start c n s = by_class (has_tokens c (take n text) s.form)
     word h le =
         let some : 0 < n = omega (arith, length-take-le n text le, h.some) in
         true≢false (sym (starts text n h le) ∙ start (omega arith))
+
     by_class : HasTokens c → ⊥
     by_class (IsName e) = let a = at_class text n e s in word a.form.0 a.longest.within
     by_class (IsWord e) = let a = at_class text n e s in word a.form.0 a.longest.within
@@ -153,6 +154,7 @@ form_ascii c text h = by_class (has_tokens c text h)
   where
     word : IsIdentifier text → IsAsciiText text
     word s = record { some = s.some; ascii = λ i lt. part_ascii _ (s.parts i lt) }
+
     by_class : HasTokens c → IsAsciiText text
     by_class (IsName e) = word (subst (λ (d : TokenClass). IsOf d text) e h).0
     by_class (IsWord e) = word (subst (λ (d : TokenClass). IsOf d text) e h).0

@@ -1,5 +1,5 @@
 -- How a list is read, item by item.
-use Rattle.std.proofs.Common.{◌≡◌, ℕ, ◌+◌, ◌≤◌, max, List, [], ◌∷◌, ◌++◌, refl, sym, ap, ◌∙◌, subst, arith, append_assoc, Result, Ok, Err}
+use Rattle.std.proofs.Common.{◌≡◌, ℕ, ◌≤◌, max, List, [], ◌∷◌, ◌++◌, refl, sym, ap, ◌∙◌, subst, arith, append_assoc, Err}
 use Rattle.js_tree.specs.Lexing.{Place}
 use Rattle.js_tree.specs.Spelling.{Piece, Onto, each_of, tallest_of}
 use Rattle.js_parser.proofs.ExitLemmas.{handed_on}

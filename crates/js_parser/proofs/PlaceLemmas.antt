@@ -1,9 +1,9 @@
 -- Tokens that are passed, and the place of a refusal.
-use Rattle.std.proofs.Common.{◌≡◌, ℕ, ◌+◌, List, [], ◌∷◌, ◌++◌, Result, Ok, Err, refl, sym, ap, ◌∙◌, subst}
+use Rattle.std.proofs.Common.{◌≡◌, ℕ, ◌+◌, List, [], ◌∷◌, ◌++◌, Result, Ok, Err, refl, sym, subst}
 use Rattle.std.specs.Result.{IsErrAnd}
 use Rattle.js_tree.specs.Lexing.{Place, LexesTo, Next, Longest, IsTrivia}
 use Rattle.js_tree.specs.declared.token.Token.{Token}
-use Rattle.js_parser.specs.Reading.{Passes, IsStop, Refuses, Moves}
+use Rattle.js_parser.specs.Reading.{Passes, Refuses, Moves}
 use Rattle.js_parser.specs.declared.fault.ParseFault.{ParseFault}
 use Rattle.js_parser.specs.declared.fault.ParseFault.TheVariants as fault
 

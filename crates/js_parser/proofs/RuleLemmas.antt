@@ -1,10 +1,10 @@
 -- The choices of the grammar, by the token that stands next.
-use Rattle.std.proofs.Common.{◌≡◌, ℕ, zero, suc, ◌+◌, ◌<◌, ◌≤◌, Bool, true, false, not, List, [], ◌∷◌, refl, sym, ap, ◌∙◌, subst, arith, ◌==◌, Option, Some, None, is_some, ◌⊎◌, ⊎_elim, ◌||◌, ◌&&◌, true≢false, nat_le}
+use Rattle.std.proofs.Common.{◌≡◌, ℕ, zero, suc, ◌+◌, ◌≤◌, Bool, true, false, not, List, [], ◌∷◌, refl, sym, ap, ◌∙◌, subst, arith, ◌==◌, Option, Some, None, is_some, ◌⊎◌, ⊎_elim, ◌&&◌, true≢false, nat_le}
 use Rattle.std.proofs.lemmas.Bool.Decides.{nat_tests}
 use Rattle.js_tree.proofs.SpellingLemmas.{Kind, kind, IsName, IsChain, at-Name, at-Chain, chain_seen, FunctionKind, function_kind, IsKeyword, at-Keyword, keyword_seen, StmtKind, stmt_kind, IsPlain, IsFun, at-Plain, at-Fun, height_some}
 use Rattle.js_tree.specs.Kinds.{admits, kind as kind_of}
 use Rattle.js_tree.specs.Lexing.{Place, IsTrivia}
-use Rattle.js_tree.specs.Spelling.{Piece, Tok, Seen, expr, function, stmt, stmts, stmts_height, one, params_line, arguments_line, tails_line, begins_plain, is_single, calls}
+use Rattle.js_tree.specs.Spelling.{Piece, Seen, expr, function, stmt, stmts_height, one, params_line, arguments_line, begins_plain}
 use Rattle.js_tree.specs.declared.form.Form.TheVariants as form
 use Rattle.js_tree.specs.declared.kind.TheConstants.{NAME, FUNCTION, SEMICOLON, RIGHT_BRACE}
 use Rattle.js_tree.specs.declared.token.Token.{Token}
@@ -23,7 +23,7 @@ use Rattle.js_parser.proofs.AheadLemmas.{holds_at}
 use Rattle.js_parser.proofs.CutLemmas.{no_token}
 use Rattle.js_parser.proofs.TokenLemmas.{differ}
 use Rattle.js_parser.specs.Nodes.{WellAt, CallAt, FunctionAt, Closes, block_line}
-use Rattle.js_parser.specs.Reading.{Reads, Sees, Begins, AllHold}
+use Rattle.js_parser.specs.Reading.{Reads, Sees, AllHold}
 use Rattle.js_parser.specs.declared.tall.Tall.{Tall}
 
 le_from : (m n : ℕ) → nat_le m n ≡ true → m ≤ n
@@ -74,6 +74,7 @@ call_view room p x rest r w = by_kind (kind x.node)
     by_tails f [] e s h = absurd (true≢false (sym s.1.0))
     by_tails f (tail.Call a ∷ []) e s h = record { head = f; arguments = a; node = e; rank = le_from _ _ s.0; not_eval = not_both _ s.1.1.0; read = s.1.1.1; height = h }
     by_tails f (y ∷ z ∷ ys) e s h = absurd (true≢false (sym s.1.0))
+
     by_kind : Kind x.node → CallView p x rest
     by_kind (IsName t e) = absurd (true≢false (sym w.is_call ∙ ap (λ (d : Seen). d.is_call) (ap expr e ∙ at-Name t)))
     by_kind (IsChain f xs e) = let s = ap expr e ∙ at-Chain f xs in by_tails f xs e (at_line p rest _ _ r s) (w.height ∙ ap (λ (d : Seen). d.height) s)
@@ -95,6 +96,7 @@ function_view room p x rest r w = by_kind (function_kind x.node)
         → Reads p ((keyword_seen word name params body).line rest) → is_some name ≡ true → x.height ≡ stmts_height body.body → FunctionView p x rest
     by_name word (Some name) params body e s named h = record { word = word; name = name; params = params; body = body; node = e; read = s; height = h }
     by_name word None params body e s named h = absurd (true≢false (sym named))
+
     by_kind : FunctionKind x.node → FunctionView p x rest
     by_kind (IsKeyword word name params body e) = let s = ap function e ∙ at-Keyword word name params body in
         by_name word name params body e (at_line p rest _ _ r s) (sym (ap (λ (d : Seen). d.is_named) s) ∙ w.is_named) (w.height ∙ ap (λ (d : Seen). d.height) s)
@@ -123,6 +125,7 @@ plain_view p x rest unseen r = by_kind (stmt_kind x)
     by_semi value (Some t) e = let d = ap stmt e ∙ at-Plain value (Some t) in let s = at_line p rest _ _ r d in
         record { value = value; semi = t; node = e; is_call = s.0; read = s.1.1.1; height = ap (λ (a : Seen). a.height) d }
     by_semi value None e = absurd (true≢false (sym (at_line p rest _ _ r (ap stmt e ∙ at-Plain value None)).1.0))
+
     by_kind : StmtKind x → PlainView p x rest
     by_kind (IsPlain value semi e) = by_semi value semi e
     by_kind (IsFun f e) = absurd (unseen (function_begins p f rest (at_line p rest _ _ r (ap stmt e ∙ at-Fun f)).1))

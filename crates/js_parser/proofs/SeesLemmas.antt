@@ -3,7 +3,7 @@ use Rattle.std.proofs.Common.{◌≡◌, ℕ, ◌+◌, ◌-◌, arith, Bool, tru
 use Rattle.std.proofs.lemmas.List.{length-take-le}
 use Rattle.std.specs.List.{list_any, slice_range}
 use Rattle.js_tree.specs.Characters.{is_line_end}
-use Rattle.js_tree.specs.Kinds.{kind, kind_of}
+use Rattle.js_tree.specs.Kinds.{kind_of}
 use Rattle.js_tree.specs.Lexing.{Place, Next, IsCut, ahead}
 use Rattle.js_tree.specs.declared.token.Token.{Token}
 use Rattle.js_tree.specs.declared.token.TokenClass.{TokenClass}

@@ -1,5 +1,5 @@
 -- A tree that spells the text, and its pieces read from the start.
-use Rattle.std.proofs.Common.{◌≡◌, ℕ, ◌≤◌, ◌<◌, arith, Ok, Err, IfErr, List, [], ◌∷◌, length, sym, subst, refl, Result}
+use Rattle.std.proofs.Common.{◌≡◌, ℕ, ◌≤◌, ◌<◌, arith, Err, IfErr, List, [], ◌∷◌, length, sym, subst, refl, Result}
 use Rattle.js_tree.specs.Lexing.{Place, LexesTo, IsTrivia, start_of}
 use Rattle.js_tree.specs.Spelling.{Piece, Tok, Must, Ahead, AreFit, tokens, stmts, stmts_height}
 use Rattle.js_tree.specs.Spells.{Spells, limit}

@@ -1,5 +1,5 @@
 -- What each rule of the grammar reads, and what must hold of it.
-use Rattle.std.specs.Prelude.{◌≡◌, ℕ, ◌≤◌, ◌<◌, max as greater, List, [], ◌∷◌, length, Result, IfOk, Bool, true}
+use Rattle.std.specs.Prelude.{◌≡◌, ℕ, ◌≤◌, ◌<◌, max as greater, List, [], ◌∷◌, length, Result, IfOk, true}
 use Rattle.std.specs.declared.alloc.Global.{Global}
 use denote.Ref.{MutBor}
 use Rattle.js_tree.specs.declared.form.Form.TheVariants as form

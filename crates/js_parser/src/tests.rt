@@ -47,7 +47,13 @@ fn outline(alloc: Global, body: &Items<Stmt>) -> Result<String, AllocError> {
 
 #[test]
 fn calls_and_declarations_are_read(rt: HostRuntime) -> Result<(), Fail> {
-    for text in ["", " \t\r\n", "f();", "function f(){g();}", "\nf ( ) ;\n$_9();evals();functionf();"] {
+    for text in [
+        "",
+        " \t\r\n",
+        "f();",
+        "function f(){g();}",
+        "\nf ( ) ;\n$_9();evals();functionf();",
+    ] {
         assert_eq!(rt; refusal(rt.alloc(), text), None, "{text}");
     }
     Ok(())

@@ -1,4 +1,4 @@
-use Rattle.std.proofs.Common.{arith, refl, sym, ap, ◌∙◌, ◌≡◌, ◌+◌, ◌-◌, ◌≤◌, List, [], ◌∷◌, subst, true≢false}
+use Rattle.std.proofs.Common.{arith, refl, sym, ap, ◌∙◌, ◌+◌, ◌-◌, List, [], ◌∷◌, subst, true≢false}
 use Rattle.js_tree.proofs.SpellingLemmas.{height_some, at-Chain}
 use Rattle.js_tree.specs.Spelling.{Seen, Piece, expr, arguments_line}
 use Rattle.js_tree.specs.declared.tree.Expr.{Expr}
@@ -59,11 +59,12 @@ returns-clause-moves c = passes_on _ _ _ c.in_ok-head.ensures.moves c.in_ok-argu
 pub returns-clause-found : goal.returns-clause-found
 returns-clause-found c =
     let w = c.in_ok-head.ensures.found.1 in
-    let s = ap expr c.in_ok-node.ensures ∙ at-Chain c.in_ok-head.field-0.node (tail.Call c.in_ok-arguments.arguments ∷ []) in
-    (λ rest r. subst (λ (t : Seen). Reads c.args.lexer.now (t.line rest)) (sym s)
-    (le_to _ _ w.rank, (refl, (both_not _ (sym c.is_eval.ensures ∙ c.if-is_eval.false), c.in_ok-head.ensures.found.0 _ (c.in_ok-arguments.ensures.found rest r)))),
-    record {
-      is_call = ap (λ (t : Seen). t.is_call) s;
-      height = ap (λ n. n + 1) w.height ∙ sym (ap (λ (t : Seen). t.height) s);
-      fits = omega (arith, w.fits, c.if-room-eq0.false);
-    })
+    let s = ap expr c.in_ok-node.ensures ∙ at-Chain c.in_ok-head.field-0.node (tail.Call c.in_ok-arguments.arguments ∷ []) in (
+      λ rest r. subst (λ (t : Seen). Reads c.args.lexer.now (t.line rest)) (sym s)
+          (le_to _ _ w.rank, (refl, (both_not _ (sym c.is_eval.ensures ∙ c.if-is_eval.false), c.in_ok-head.ensures.found.0 _ (c.in_ok-arguments.ensures.found rest r)))),
+      record {
+        is_call = ap (λ (t : Seen). t.is_call) s;
+        height = ap (λ n. n + 1) w.height ∙ sym (ap (λ (t : Seen). t.height) s);
+        fits = omega (arith, w.fits, c.if-room-eq0.false);
+      },
+    )

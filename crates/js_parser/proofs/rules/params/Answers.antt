@@ -1,4 +1,3 @@
-use Rattle.std.proofs.Common.{◌≡◌}
 use Rattle.js_tree.specs.Spelling.{one}
 use Rattle.js_tree.specs.declared.kind.TheConstants.{RIGHT_PAREN}
 use Rattle.js_parser.proofs.ExitLemmas.{exit}

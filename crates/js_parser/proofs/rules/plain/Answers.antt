@@ -1,6 +1,6 @@
-use Rattle.std.proofs.Common.{arith, refl, sym, ap, ◌∙◌, ◌≡◌, ◌+◌, ◌-◌, ◌≤◌, List, subst, Some}
+use Rattle.std.proofs.Common.{arith, refl, sym, ap, ◌∙◌, ◌+◌, ◌-◌, List, subst, Some}
 use Rattle.js_tree.proofs.SpellingLemmas.{stmt_height_some, at-Plain}
-use Rattle.js_tree.specs.Spelling.{Seen, Piece, expr, stmt, one, begins_plain}
+use Rattle.js_tree.specs.Spelling.{Seen, Piece, expr, one, begins_plain}
 use Rattle.js_tree.specs.declared.kind.TheConstants.{SEMICOLON}
 use Rattle.js_tree.specs.declared.tree.Expr.{Expr}
 use Rattle.js_tree.specs.declared.tree.Stmt.{Stmt}
@@ -54,8 +54,9 @@ returns-clause-moves c = passes_on _ _ _ c.in_ok-value.ensures.moves c.in_ok-sem
 pub returns-clause-found : goal.returns-clause-found
 returns-clause-found c =
     let w = c.in_ok-value.ensures.found.1 in
-    let s = at-Plain c.in_ok-value.field-0.node (Some c.in_ok-semi.semi) in
-    (λ rest r.
-    let more = c.in_ok-value.ensures.found.0 (one c.in_ok-semi.semi SEMICOLON rest) (_, c.in_ok-semi.ensures.found.0, c.in_ok-semi.ensures.found.1, r) in
-    subst (λ (t : Seen). Reads c.args.lexer.now (t.line rest)) (sym s) (w.is_call, (refl, (holds_from begins_plain _ _ (ahead_from _ c.requires.unseen) more, more))),
-    record { height = ap (λ n. n + 1) w.height ∙ sym (ap (λ (t : Seen). t.height) s); fits = omega (arith, w.fits, c.if-room-eq0.false) })
+    let s = at-Plain c.in_ok-value.field-0.node (Some c.in_ok-semi.semi) in (
+      λ rest r.
+          let more = c.in_ok-value.ensures.found.0 (one c.in_ok-semi.semi SEMICOLON rest) (_, c.in_ok-semi.ensures.found.0, c.in_ok-semi.ensures.found.1, r) in
+          subst (λ (t : Seen). Reads c.args.lexer.now (t.line rest)) (sym s) (w.is_call, (refl, (holds_from begins_plain _ _ (ahead_from _ c.requires.unseen) more, more))),
+      record { height = ap (λ n. n + 1) w.height ∙ sym (ap (λ (t : Seen). t.height) s); fits = omega (arith, w.fits, c.if-room-eq0.false) },
+    )

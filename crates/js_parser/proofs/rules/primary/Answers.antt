@@ -1,4 +1,4 @@
-use Rattle.std.proofs.Common.{arith, sym, ap, ◌∙◌, ◌≡◌, subst}
+use Rattle.std.proofs.Common.{arith, sym, ap, ◌∙◌, subst}
 use Rattle.js_tree.proofs.SpellingLemmas.{height_some, at-Name}
 use Rattle.js_tree.specs.Spelling.{Seen}
 use Rattle.js_tree.specs.declared.tree.Expr.TheVariants as expression
@@ -28,6 +28,7 @@ returns-clause-only c x rest r w _ =
 
 pub returns-clause-found : goal.returns-clause-found
 returns-clause-found c =
-    let s = at-Name c.in_ok-name.name in
-    (λ rest r. subst (λ (t : Seen). Reads c.args.lexer.now (t.line rest)) (sym s) (_, c.in_ok-name.ensures.found.0, c.in_ok-name.ensures.found.1, r),
-    record { rank = omega (arith, ap (λ (t : Seen). t.rank) s); height = sym (ap (λ (t : Seen). t.height) s); fits = omega (arith, c.if-room-eq0.false) })
+    let s = at-Name c.in_ok-name.name in (
+      λ rest r. subst (λ (t : Seen). Reads c.args.lexer.now (t.line rest)) (sym s) (_, c.in_ok-name.ensures.found.0, c.in_ok-name.ensures.found.1, r),
+      record { rank = omega (arith, ap (λ (t : Seen). t.rank) s); height = sym (ap (λ (t : Seen). t.height) s); fits = omega (arith, c.if-room-eq0.false) },
+    )

@@ -6,7 +6,7 @@ abbrev pub invariant-loop-n : goal.invariant-loop-n
 invariant-loop-n l = record {
   some : 0 < l.n;
   within : l.n ≤ length l.text;
-  parts : (i : ℕ) → i < l.n → is_part (get_or l.text i 0) ≡ true
+  parts : (i : ℕ) → i < l.n → is_part (get_or l.text i 0) ≡ true;
 }
 
 abbrev pub decreases-loop-n : goal.decreases-loop-n

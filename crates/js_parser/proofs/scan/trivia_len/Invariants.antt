@@ -5,7 +5,7 @@ use Rattle.js_parser.proofs.scan.trivia_len.Given as goal
 abbrev pub invariant-loop-n : goal.invariant-loop-n
 invariant-loop-n l = record {
   within : l.n ≤ length l.text;
-  blank : (i : ℕ) → i < l.n → is_blank (get_or l.text i 0) ≡ true
+  blank : (i : ℕ) → i < l.n → is_blank (get_or l.text i 0) ≡ true;
 }
 
 abbrev pub decreases-loop-n : goal.decreases-loop-n

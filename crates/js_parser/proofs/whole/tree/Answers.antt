@@ -1,5 +1,5 @@
-use Rattle.std.proofs.Common.{◌≡◌, ◌∙◌, arith, sym, ap, subst, refl, List, Result, Ok, Err, true≢false}
-use Rattle.js_tree.specs.Lexing.{Place, IsTrivia, start_of}
+use Rattle.std.proofs.Common.{arith, sym, subst, refl, List, Ok, Err, true≢false}
+use Rattle.js_tree.specs.Lexing.{Place, IsTrivia}
 use Rattle.js_tree.specs.Spelling.{stmts_height}
 use Rattle.js_tree.specs.declared.tree.Stmt.{Stmt}
 use Rattle.js_tree.specs.declared.tree.Tree.{Tree}
@@ -7,7 +7,6 @@ use Rattle.js_parser.proofs.ExitLemmas.{exit}
 use Rattle.js_parser.proofs.PlaceLemmas.{refuses_on}
 use Rattle.js_parser.proofs.WholeLemmas.{spelled, only_body}
 use Rattle.js_parser.specs.Reading.{Gives, Passes}
-use Rattle.js_parser.specs.declared.fault.ParseFault.{ParseFault}
 use Rattle.js_parser.specs.declared.tall.Tall.{Tall}
 use Rattle.js_parser.proofs.whole.tree.Goals as goal
 
@@ -16,7 +15,8 @@ body_of tree = record { node = tree.body; height = stmts_height tree.body }
 
 pub returns-in_err-body-clause-only : goal.returns-in_err-body-clause-only
 returns-in_err-body-clause-only c tree s =
-    exit {X = Tall (List Stmt)} _ _ (body_of tree) tree _ _ c.from_residual.ensures.1 (only_body _ _ _ tree _ c.new-lexer.ensures s c.in_err-body.ensures.only)
+    exit {X = Tall (List Stmt)} _ c.in_err-body.field-0.0 (body_of tree) tree (IsTrivia c.stmts.new.lexer.left) _ c.from_residual.ensures.1
+    (only_body c.args.text.now _ c.stmts.new.lexer tree (Err c.in_err-body.field-0.0) c.new-lexer.ensures s c.in_err-body.ensures.only)
 
 pub returns-then-is_at_end-clause-found : goal.returns-then-is_at_end-clause-found
 returns-then-is_at_end-clause-found c =
@@ -24,12 +24,12 @@ returns-then-is_at_end-clause-found c =
 
 pub returns-then-is_at_end-clause-only : goal.returns-then-is_at_end-clause-only
 returns-then-is_at_end-clause-only c tree s =
-    let g0 : Gives {X = Tall (List Stmt)} (Ok c.in_ok-body.field-0) (body_of tree) (IsTrivia c.stmts.new.lexer.left) = only_body _ _ _ tree _ c.new-lexer.ensures s c.in_ok-body.ensures.only in
+    let g0 : Gives {X = Tall (List Stmt)} (Ok c.in_ok-body.field-0) (body_of tree) (IsTrivia c.stmts.new.lexer.left) = only_body c.args.text.now _ c.stmts.new.lexer tree (Ok c.in_ok-body.field-0) c.new-lexer.ensures s c.in_ok-body.ensures.only in
     (λ i. record { body = (g0.0 i).node }, tt)
 
 pub returns-else-is_at_end-clause-only : goal.returns-else-is_at_end-clause-only
 returns-else-is_at_end-clause-only c tree s =
-    let g0 : Gives {X = Tall (List Stmt)} (Ok c.in_ok-body.field-0) (body_of tree) (IsTrivia c.stmts.new.lexer.left) = only_body _ _ _ tree _ c.new-lexer.ensures s c.in_ok-body.ensures.only in
+    let g0 : Gives {X = Tall (List Stmt)} (Ok c.in_ok-body.field-0) (body_of tree) (IsTrivia c.stmts.new.lexer.left) = only_body c.args.text.now _ c.stmts.new.lexer tree (Ok c.in_ok-body.field-0) c.new-lexer.ensures s c.in_ok-body.ensures.only in
     absurd (true≢false (sym (c.if-is_at_end.ensures.1 g0.1)))
 
 pub returns-else-is_at_end-clause-placed : goal.returns-else-is_at_end-clause-placed

@@ -1,5 +1,5 @@
-use Rattle.std.proofs.Common.{refl, ap, ◌≡◌, List}
-use Rattle.js_tree.specs.Spelling.{Piece, Onto, one, stmts}
+use Rattle.std.proofs.Common.{refl, List}
+use Rattle.js_tree.specs.Spelling.{Onto, one, stmts}
 use Rattle.js_tree.specs.declared.kind.TheConstants.{RIGHT_BRACE}
 use Rattle.js_tree.specs.declared.tree.Block.{Block}
 use Rattle.js_tree.specs.declared.tree.Stmt.{Stmt}

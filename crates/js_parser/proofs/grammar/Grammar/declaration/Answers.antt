@@ -1,4 +1,4 @@
-use Rattle.std.proofs.Common.{refl, sym, ap, ◌∙◌, ◌≡◌, ◌≤◌, ◌+◌, ◌-◌, List, subst, arith}
+use Rattle.std.proofs.Common.{refl, sym, ap, ◌∙◌, ◌+◌, ◌-◌, List, subst, arith}
 use Rattle.js_tree.proofs.SpellingLemmas.{stmt_height_some, at-Fun}
 use Rattle.js_tree.specs.Spelling.{Piece, Seen, stmt}
 use Rattle.js_tree.specs.Spelling as spec
@@ -42,6 +42,7 @@ returns-clause-only g c x rest r at _ =
 pub returns-clause-found : goal.returns-clause-found
 returns-clause-found g c =
     let w = c.in_ok-node.ensures.found.1 in
-    let s = ap (λ (f : Function). stmt (statement.Fun f)) c.in_ok-function.ensures ∙ at-Fun c.in_ok-node.field-0.node in
-    (λ rest r. subst (λ (t : Seen). Reads c.args.lexer.now (t.line rest)) (sym s) (w.is_named, c.in_ok-node.ensures.found.0 rest r),
-    record { height = ap (λ n. n + 1) w.height ∙ sym (ap (λ (t : Seen). t.height) s); fits = omega (arith, w.fits, c.if-room-eq0.false) })
+    let s = ap (λ (f : Function). stmt (statement.Fun f)) c.in_ok-function.ensures ∙ at-Fun c.in_ok-node.field-0.node in (
+      λ rest r. subst (λ (t : Seen). Reads c.args.lexer.now (t.line rest)) (sym s) (w.is_named, c.in_ok-node.ensures.found.0 rest r),
+      record { height = ap (λ n. n + 1) w.height ∙ sym (ap (λ (t : Seen). t.height) s); fits = omega (arith, w.fits, c.if-room-eq0.false) },
+    )

@@ -1,4 +1,4 @@
-use Rattle.std.proofs.Common.{refl, sym, ap, ◌∙◌, ◌≡◌, ◌≤◌, List, subst, arith, Some}
+use Rattle.std.proofs.Common.{refl, sym, ap, ◌∙◌, List, subst, arith, Some}
 use Rattle.js_tree.proofs.SpellingLemmas.{at-Keyword}
 use Rattle.js_tree.specs.Spelling.{Piece, Onto, Seen, one, params_line, stmts_height}
 use Rattle.js_tree.specs.declared.kind.TheConstants.{NAME}
@@ -87,7 +87,8 @@ returns-clause-moves g c =
 pub returns-clause-found : goal.returns-clause-found
 returns-clause-found g c =
     let w = c.in_ok-body.ensures.found.1 in
-    let s = at-Keyword c.in_ok-word.word (Some c.in_ok-name.name) c.in_ok-params.params c.in_ok-body.field-0.node in
-    (λ rest r. subst (λ (t : Seen). Reads c.args.lexer.now (t.line rest)) (sym s)
-    (_, c.in_ok-word.ensures.found.0, c.in_ok-word.ensures.found.1, (_, c.in_ok-name.ensures.found.0, c.in_ok-name.ensures.found.1, c.in_ok-params.ensures.found (block_line c.in_ok-body.field-0.node rest) (c.in_ok-body.ensures.found.0 rest r))),
-    record { is_named = ap (λ (t : Seen). t.is_named) s; height = w.height ∙ sym (ap (λ (t : Seen). t.height) s); fits = w.fits })
+    let s = at-Keyword c.in_ok-word.word (Some c.in_ok-name.name) c.in_ok-params.params c.in_ok-body.field-0.node in (
+      λ rest r. subst (λ (t : Seen). Reads c.args.lexer.now (t.line rest)) (sym s)
+          (_, c.in_ok-word.ensures.found.0, c.in_ok-word.ensures.found.1, (_, c.in_ok-name.ensures.found.0, c.in_ok-name.ensures.found.1, c.in_ok-params.ensures.found (block_line c.in_ok-body.field-0.node rest) (c.in_ok-body.ensures.found.0 rest r))),
+      record { is_named = ap (λ (t : Seen). t.is_named) s; height = w.height ∙ sym (ap (λ (t : Seen). t.height) s); fits = w.fits },
+    )

@@ -1,8 +1,8 @@
-use Rattle.std.proofs.Common.{arith, refl, sym, ap, ◌∙◌, List, ◌≡◌, ◌≤◌, ◌<◌, ◌++◌, ◌∷◌, [], subst, max, length}
-use Rattle.js_tree.specs.Spelling.{Piece, stmt_line, stmt_height, stmts_height}
+use Rattle.std.proofs.Common.{arith, refl, sym, ap, ◌∙◌, List, subst, max}
+use Rattle.js_tree.specs.Spelling.{stmt_line, stmt_height, stmts_height}
 use Rattle.js_tree.specs.declared.tree.Stmt.{Stmt}
 use Rattle.js_parser.proofs.ExitLemmas.{exit, handed_on}
-use Rattle.js_parser.proofs.ListLemmas.{begun, one_more, finished, refused, tallest-push}
+use Rattle.js_parser.proofs.ListLemmas.{one_more, finished, refused, tallest-push}
 use Rattle.js_parser.proofs.PlaceLemmas.{moved}
 use Rattle.js_parser.proofs.RuleLemmas.{not_closed, stmt_not_closed}
 use Rattle.js_parser.specs.Nodes.{Closes}
@@ -39,5 +39,5 @@ statements-preserved g c = record {
 pub returns-clause-only : goal.returns-clause-only
 returns-clause-only g c x rest r at closes =
     let a = finished stmt_line stmt_height Closes (Anywhere Stmt) c.args.room _ _ _ c.statements.invariant.progress
-        (λ y more s. stmt_not_closed _ y more c.statements-test.ensures s) x.node rest r (omega (arith, at.height, at.fits)) closes in
+    (λ y more s. stmt_not_closed _ y more c.statements-test.ensures s) x.node rest r (omega (arith, at.height, at.fits)) closes in
     (λ i. record { node = a.0 i; height = (c.statements.invariant.tallest ∙ ap stmts_height a.0 ∙ sym at.height) i }, a.1)

@@ -8,7 +8,7 @@ abbrev pub invariant-statements : goal.invariant-statements
 invariant-statements g l = record {
   progress : Progress stmt_line stmt_height Closes l.room l.fn.lexer l.all l.lexer;
   tallest : l.tallest ≡ stmts_height l.all;
-  shorter : length l.lexer.left ≤ length l.fn.lexer.left
+  shorter : length l.lexer.left ≤ length l.fn.lexer.left;
 }
 
 abbrev pub decreases-statements : goal.decreases-statements

@@ -1,4 +1,4 @@
-use Rattle.std.proofs.Common.{sym, ap, ◌∙◌, subst, List, ℕ, ◌+◌, refl}
+use Rattle.std.proofs.Common.{sym, ap, ◌∙◌, subst, List, ℕ, ◌+◌}
 use Rattle.std.specs.Str.{IsCharBoundary}
 use Rattle.js_tree.specs.Kinds.{admits}
 use Rattle.js_tree.specs.Lexing.{Place}
@@ -20,9 +20,10 @@ range_from-self-inside-requires c _ =
     (end_boundary _ _ c.as_bytes-bytes.ensures.utf8 c.in-Some.ensures.found)
 
 pub returns-clause-found : goal.returns-clause-found
-returns-clause-found c =
-    (taken _ _ _ _ _ _ _ _ c.as_bytes-bytes.ensures.value c.self.view_is c.in-Some.ensures.found (c.in_ok-text.ensures ∙ c.range.ensures.value) c.has_line_end-nl_before.ensures c.range_from-self-inside.ensures.value,
-    ap (admits c.args.form) (taken_kind _ _ _ _ c.as_bytes-bytes.ensures.value c.in-Some.ensures.found (c.in_ok-text.ensures ∙ c.range.ensures.value)) ∙ sym c.admits.ensures ∙ c.if-not-admits.false)
+returns-clause-found c = (
+  taken _ _ _ _ _ _ _ _ c.as_bytes-bytes.ensures.value c.self.view_is c.in-Some.ensures.found (c.in_ok-text.ensures ∙ c.range.ensures.value) c.has_line_end-nl_before.ensures c.range_from-self-inside.ensures.value,
+  ap (admits c.args.form) (taken_kind _ _ _ _ c.as_bytes-bytes.ensures.value c.in-Some.ensures.found (c.in_ok-text.ensures ∙ c.range.ensures.value)) ∙ sym c.admits.ensures ∙ c.if-not-admits.false,
+)
 
 pub returns-clause-only : goal.returns-clause-only
 returns-clause-only c x rest r any anywhere =
