@@ -15,3 +15,6 @@ pub use refusal::Refusal;
 pub use status::Status;
 pub(crate) use stop::Stop;
 pub use top::run;
+
+#[cfg(test)]
+mod tests;
