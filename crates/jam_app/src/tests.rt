@@ -58,44 +58,20 @@ fn ran<R: Threads + Sync, L: Ledger>(
     )
 }
 
-// Runs with these words, which stand between spaces.
-fn run_words<R: Threads + Sync, L: Ledger>(
-    rt: &R,
-    alloc: Global,
-    bench: &mut Bench,
-    line: &str,
-    blank: Blank,
-) -> Result<Status, Fail>
-    requires name { blank.name ≡ L.name }
-    requires parts { blank.parts ≡ L.parts }
-    requires some { 0 < L.parts }
-{
+// The words of a line, which stand between spaces.
+fn words_of(alloc: Global, line: &str) -> Result<Vec<Text>, Fail> {
     let mut words = Vec::new(alloc);
     for word in line.split(' ') {
         words.push(Text::of(alloc, word)?)?;
     }
-    Ok(ran::<R, L>(rt, alloc, bench, words.as_slice(), blank))
+    Ok(words)
 }
 
-// Compares what a run over one file leaves: its status and the line on err, with nothing on the output.
-fn leaves<R: Threads + Sync + Abort, L: Ledger>(
-    rt: &R,
-    alloc: Global,
-    bench: &mut Bench,
-    line: &str,
-    number: u8,
-    err: &str,
-    blank: Blank,
-) -> Result<(), Fail>
-    requires name { blank.name ≡ L.name }
-    requires parts { blank.parts ≡ L.parts }
-    requires some { 0 < L.parts }
-{
-    let status = run_words::<R, L>(rt, alloc, bench, line, blank)?;
+// Compares what a run left: its status and the line on err, with nothing on the output.
+fn compare(rt: &impl Abort, bench: &Bench, status: &Status, line: &str, number: u8, err: &str) {
     assert_eq!(rt; status.number(), number, "{line}");
     assert_eq!(rt; bench.out.bytes(), b"".as_slice());
     assert_eq!(rt; bench.err.bytes(), err.as_bytes());
-    Ok(())
 }
 
 #[test]
@@ -127,7 +103,15 @@ fn a_text_is_taken_or_refused_at_its_place(rt: HostRuntime) -> Result<(), Fail> 
     ] {
         let mut bench = set_up(alloc, "index.js", text, 0, 99)?;
         let line = "graph ./a/../index.js";
-        leaves::<HostRuntime, Brand>(&rt, alloc, &mut bench, line, number, err, Blank::new(1))?;
+        let words = words_of(alloc, line)?;
+        let status = ran::<HostRuntime, Brand>(
+            &rt,
+            alloc,
+            &mut bench,
+            words.as_slice(),
+            Blank::new(1),
+        );
+        compare(&rt, &bench, &status, line, number, err);
     }
     Ok(())
 }
@@ -151,7 +135,15 @@ fn an_entry_is_a_file_that_can_be_code(rt: HostRuntime) -> Result<(), Fail> {
         ("index.js", "graph index.js", 3, 0, ""),
     ] {
         let mut bench = set_up(alloc, path, b"", failing, 99)?;
-        leaves::<HostRuntime, Brand>(&rt, alloc, &mut bench, line, number, err, Blank::new(1))?;
+        let words = words_of(alloc, line)?;
+        let status = ran::<HostRuntime, Brand>(
+            &rt,
+            alloc,
+            &mut bench,
+            words.as_slice(),
+            Blank::new(1),
+        );
+        compare(&rt, &bench, &status, line, number, err);
     }
     Ok(())
 }
@@ -170,7 +162,15 @@ fn words_are_canonical_or_a_usage(rt: HostRuntime) -> Result<(), Fail> {
         ("--help", 6, ""),
     ] {
         let mut bench = set_up(alloc, "a\\b.js", b"?", 0, 0)?;
-        leaves::<HostRuntime, Brand>(&rt, alloc, &mut bench, line, number, err, Blank::new(1))?;
+        let words = words_of(alloc, line)?;
+        let status = ran::<HostRuntime, Brand>(
+            &rt,
+            alloc,
+            &mut bench,
+            words.as_slice(),
+            Blank::new(1),
+        );
+        compare(&rt, &bench, &status, line, number, err);
     }
     Ok(())
 }
