@@ -1,2 +1,4 @@
 pub mod Laws
 pub mod Members
+pub mod UseLaws
+pub mod UseLemmas
