@@ -2,3 +2,5 @@ pub mod Laws
 pub mod Members
 pub mod UseLaws
 pub mod UseLemmas
+pub mod Ascent
+pub mod Meanings
