@@ -3,6 +3,7 @@ use Rattle.std.proofs.Common.{◌≡◌, List, [], ◌∷◌, map, refl, sym, ap
 use Rattle.std.specs.List.{flat_map}
 use Rattle.std.proofs.lemmas.List.Folds.{flat_map-map}
 use Rattle.js_tree.specs.declared.token.Token.{Token}
+use Rattle.js_tree.specs.declared.tree.Arguments.{Arguments}
 use Rattle.js_tree.specs.declared.tree.Block.{Block}
 use Rattle.js_tree.specs.declared.tree.Expr.{Expr, Expr-F, fold-roll-Expr}
 use Rattle.js_tree.specs.declared.tree.Expr.TheVariants as expression
@@ -16,6 +17,8 @@ use Rattle.js_tree.specs.declared.tree.Stmt.{Stmt, fold-roll-Stmt}
 use Rattle.js_tree.specs.declared.tree.Stmt.TheVariants as statement
 use Rattle.js_tree.specs.declared.tree.Stmt.TheVariants.{rolls-Plain, rolls-Fun}
 use Rattle.js_tree.specs.declared.tree.Tail.{Tail}
+use Rattle.js_tree.specs.declared.tree.Tail.TheVariants as tail
+use Rattle.js_tree.proofs.WellFormed.{call_of}
 use Rattle.js_scopes.specs.Scopes.{name_list}
 use Rattle.flow_rules.specs.declared.vertex.Vertex.TheVariants as vertex
 use Rattle.flow_rules.specs.Flows.{Flowing, expr_step, function_step, stmt_step, expr, function, stmt}
@@ -57,3 +60,17 @@ at-Plain value semi = ap stmt (sym (rolls-Plain value semi)) ∙ fold-roll-Stmt 
 pub at-Fun : (f : Function) → stmt (statement.Fun f) ≡ stmt_step (Stmt-F.Fun (function f))
 unfolding function stmt
 at-Fun f = ap stmt (sym (rolls-Fun f)) ∙ fold-roll-Stmt Flowing Flowing function_step stmt_step (Stmt-F.Fun f)
+
+-- what is seen of a plain call
+abbrev pub call_seen : Token → Arguments → Flowing
+call_seen t a = expr_step (Expr-F.Chain (expr_step (Expr-F.Name t)) (tail.Call a ∷ []))
+
+pub at_call : (t : Token) (a : Arguments) (semi : Option Token) → stmt (statement.Plain (call_of t a) semi) ≡ call_seen t a
+at_call t a semi = at-Plain (call_of t a) semi ∙ at-Chain (expression.Name t) (tail.Call a ∷ []) ∙ ap (λ h. expr_step (Expr-F.Chain h (tail.Call a ∷ []))) (at-Name t)
+
+-- what is seen of a declaration
+abbrev pub declaration_seen : Token → Token → Params → Block Stmt → Flowing
+declaration_seen word name params body = stmt_step (Stmt-F.Fun (keyword_seen word (Some name) params body))
+
+pub at_declaration : (word name : Token) (params : Params) (body : Block Stmt) → stmt (statement.Fun (made.Keyword word (Some name) params body)) ≡ declaration_seen word name params body
+at_declaration word name params body = at-Fun (made.Keyword word (Some name) params body) ∙ ap (λ f. stmt_step (Stmt-F.Fun f)) (at-Keyword word (Some name) params body)
