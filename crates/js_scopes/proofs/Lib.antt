@@ -4,3 +4,4 @@ pub mod UseLaws
 pub mod UseLemmas
 pub mod Ascent
 pub mod Meanings
+pub mod Placed

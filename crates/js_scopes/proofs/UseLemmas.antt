@@ -51,7 +51,8 @@ pub record Told (x : Stmt) : Type 0 where
   pub names : (n : Numbering) (around : Around) → (scopes.stmt x).names n around ≡ flat_map (use_names n) ((used.stmt x).uses n around)
   pub sites : (n : Numbering) (around : Around) → (scopes.stmt x).sites n around ≡ flat_map use_sites ((used.stmt x).uses n around)
 
-same_scope : (xs : List Stmt) → AllByRecursion Told xs → flat_map (λ x. (used.stmt x).declares) xs ≡ flat_map (λ x. (scopes.stmt x).declares) xs
+-- what statements declare, by both
+pub same_scope : (xs : List Stmt) → AllByRecursion Told xs → flat_map (λ x. (used.stmt x).declares) xs ≡ flat_map (λ x. (scopes.stmt x).declares) xs
 same_scope [] h = refl
 same_scope (x ∷ xs) h = λ i. h.0.declares i ++ same_scope xs h.1 i
 
