@@ -1,1 +1,2 @@
 pub mod LeastSolution
+pub mod PlainSolution

@@ -1,0 +1,10 @@
+pub mod LexLemmas
+pub mod CutLemmas
+pub mod TokenLemmas
+pub mod SeesLemmas
+pub mod ExitLemmas
+pub mod PlaceLemmas
+pub mod AheadLemmas
+pub mod ListLemmas
+pub mod RuleLemmas
+pub mod WholeLemmas

@@ -1,0 +1,4 @@
+pub mod Scanning
+pub mod Reading
+pub mod Nodes
+pub mod Answers

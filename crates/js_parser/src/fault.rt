@@ -1,0 +1,56 @@
+//! Why a text isn't read.
+use jam_base::OutOfMemory;
+use std::alloc::AllocError;
+use std::error::Error;
+use std::fmt;
+
+/// Why a text isn't read.
+#[derive(Clone, Copy, Debug, PartialEq, Eq)]
+pub enum ParseFault {
+    /// The text is over the limit of 8,388,608 bytes.
+    TooLarge {
+        /// How many bytes it has.
+        length: u64,
+    },
+    /// No tree spells the text.
+    NotInProfile {
+        /// The offset in bytes, from 0, at which reading stopped: there a token begins, or none can, or the text ends.
+        at: u32,
+    },
+    /// A growth found no memory.
+    OutOfMemory,
+}
+
+impl fmt::Display for ParseFault {
+    fn fmt<W: fmt::Write>(&self, f: &mut fmt::Formatter<W>) -> fmt::Result {
+        match self {
+            ParseFault::TooLarge { length } => write!(f, "too large: {length} bytes"),
+            ParseFault::NotInProfile { at } => write!(f, "not in the profile at offset {at}"),
+            ParseFault::OutOfMemory => write!(f, "out of memory"),
+        }
+    }
+}
+
+impl Error for ParseFault {}
+
+impl From<AllocError> for ParseFault {
+    ghost use Rattle.std.specs.Prelude.{◌≡◌};
+    ghost use Rattle.js_parser.specs.declared.fault.ParseFault.TheVariants as fault;
+
+    ghost from_gives = { λ _ e. e ≡ fault.OutOfMemory };
+
+    fn from(_: AllocError) -> ParseFault {
+        ParseFault::OutOfMemory
+    }
+}
+
+impl From<OutOfMemory> for ParseFault {
+    ghost use Rattle.std.specs.Prelude.{◌≡◌};
+    ghost use Rattle.js_parser.specs.declared.fault.ParseFault.TheVariants as fault;
+
+    ghost from_gives = { λ _ e. e ≡ fault.OutOfMemory };
+
+    fn from(_: OutOfMemory) -> ParseFault {
+        ParseFault::OutOfMemory
+    }
+}

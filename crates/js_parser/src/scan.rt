@@ -1,0 +1,118 @@
+//! The token at the front of a text (ECMA-262, clause 11).
+ghost use Rattle.std.specs.Prelude.{◌≡◌, ◌<◌, ℕ, length, slice_index, take, IfSome, Some, true};
+ghost use Rattle.std.specs.List.{list_any};
+ghost use Rattle.js_tree.specs.declared.token.TokenClass.{TokenClass};
+ghost use Rattle.js_tree.specs.Characters as spec;
+ghost use Rattle.js_tree.specs.Lexing.{Longest, IsTrivia, IsIdentifier, IsCut, Stands};
+ghost use Rattle.js_parser.specs.Scanning.{front_of, cut_of, IsFront, IsCutAs};
+
+use crate::chars::{is_blank, is_line_end, is_mark, is_part, is_start};
+use crate::words::place_of;
+use js_tree::{TokenClass, kind};
+
+/// A token at the front of a text.
+#[derive(Clone, Copy)]
+pub struct Front {
+    /// Its class.
+    pub class: TokenClass,
+    /// Its kind.
+    pub kind: u8,
+    /// How many bytes it has.
+    pub len: usize,
+}
+
+/// The next token of a text.
+#[derive(Clone, Copy)]
+pub struct Cut {
+    /// How many bytes of trivia stand before it.
+    pub gap: usize,
+    /// Its class.
+    pub class: TokenClass,
+    /// Its kind.
+    pub kind: u8,
+    /// How many bytes it has.
+    pub len: usize,
+}
+
+/// How many bytes of trivia the text begins with.
+pub fn trivia_len(text: &[u8]) -> usize
+    ensures { Longest IsTrivia text.now result }
+{
+    let mut n = 0;
+    while n < text.len() && is_blank(text[n]) {
+        n += 1;
+    }
+    n
+}
+
+/// Whether the text has a line end.
+pub fn has_line_end(text: &[u8]) -> bool
+    ensures { result ≡ list_any spec.is_line_end text.now }
+{
+    text.iter().any(|c| is_line_end(*c))
+}
+
+/// How many bytes the name or word has that the text begins with.
+fn identifier_len(text: &[u8]) -> usize
+    requires some { 0 < length text.now }
+    requires start { spec.is_start (slice_index text.now 0) ≡ true }
+    ensures { Longest IsIdentifier text.now result }
+{
+    let mut n = 1;
+    while n < text.len() && is_part(text[n]) {
+        n += 1;
+    }
+    n
+}
+
+/// The token at the front of the text.
+fn at_front(text: &[u8]) -> Option<Front>
+    ensures found { IfSome result (λ f. IsFront text.now f) }
+    ensures only { (c : TokenClass) (n : ℕ) → Stands c text.now n → result ≡ Some (front_of text.now c n) }
+{
+    if text.is_empty() {
+        return None;
+    }
+    if is_mark(text[0]) {
+        return Some(Front {
+            class: TokenClass::Punct,
+            kind: text[0],
+            len: 1,
+        });
+    }
+    if is_start(text[0]) {
+        let len = identifier_len(text);
+        let place = place_of(&text[..len]);
+        if place < 37 {
+            return Some(Front {
+                class: TokenClass::Word,
+                kind: kind::FIRST_WORD + place as u8,
+                len,
+            });
+        }
+        return Some(Front {
+            class: TokenClass::Name,
+            kind: kind::NAME,
+            len,
+        });
+    }
+    None
+}
+
+/// The next token of the text.
+pub fn next_token(text: &[u8]) -> Option<Cut>
+    ensures found { IfSome result (λ r. IsCutAs text.now r) }
+    ensures only { (gap : ℕ) (c : TokenClass) (n : ℕ) → IsCut text.now gap c n → result ≡ Some (cut_of text.now gap c n) }
+{
+    let gap = trivia_len(text);
+    let (_, rest) = text.split_at(gap);
+    match at_front(rest) {
+        Some(front) => Some(Cut {
+            gap,
+            class: front.class,
+            kind: front.kind,
+            len: front.len,
+        }),
+        None => None,
+    }
+}

@@ -1,0 +1,10 @@
+//! Nodes with their heights.
+
+/// A node and its height: how many statements and expressions stand on the longest way down from it, itself among them.
+#[derive(Drop)]
+pub struct Tall<T> {
+    /// The node.
+    pub node: T,
+    /// Its height.
+    pub height: u32,
+}
