@@ -1,2 +1,3 @@
 pub mod LeastSolution
 pub mod PlainSolution
+pub mod PlainCalls

@@ -1,9 +1,10 @@
 -- Which values come to the callees of plain calls.
 use Rattle.std.proofs.Common.{◌≡◌, ℕ, ◌+◌, ◌<◌, ◌≤◌, List, [], ◌∷◌, ◌++◌, refl, sym, ap, subst, ◌∙◌, inl, inr, arith, map, ◌⊎◌}
 use Rattle.std.specs.Prelude.{Contains}
-use Rattle.std.specs.List.{flat_map, enumerate_from}
+use Rattle.std.specs.List.{flat_map, enumerate_from, range_with_len}
 use Rattle.std.proofs.lemmas.List.Elements.{Contains-append_cases, Contains-append_left}
 use Rattle.js_tree.specs.declared.tree.Tree.{Tree}
+use Rattle.js_scopes.specs.declared.function.FunctionInfo.{FunctionInfo}
 use Rattle.js_scopes.specs.declared.site.SiteInfo.{SiteInfo}
 use Rattle.js_scopes.proofs.Members.{none, only, cons_cases, here, there, from_map, from_flat_map, into_map, into_flat_map}
 use Rattle.flow_rules.specs.declared.module.Flow.{Flow}
@@ -92,3 +93,78 @@ module _ (c : ModuleConstraints) (plain : IsPlain c) where
     | inl e ↦ ap (λ (a : Arrow ModuleVertex). a.from) e
     | inr g ↦ from_each u vs arrow g
   ]
+
+  from_functions : (f : Callable ModuleVertex Value) → Contains (alone c).functions f → (g : ℕ × FunctionInfo) × Contains (enumerate_from 0 c.functions) g × (callable_of 0 g ≡ f)
+  from_functions f h = elim (Contains-append_cases (map (callable_of 0) (enumerate_from 0 c.functions)) [] f h) [
+    | inl k ↦ from_map (callable_of 0) (enumerate_from 0 c.functions) f k
+    | inr k ↦ absurd (none f k)
+  ]
+
+  from_sites : (s : CallSite ModuleVertex) → Contains (alone c).sites s → (i : SiteInfo) × Contains c.sites i × (site_of 0 i ≡ s)
+  from_sites s h = elim (Contains-append_cases (map (site_of 0) c.sites) [] s h) [
+    | inl k ↦ from_map (site_of 0) c.sites s k
+    | inr k ↦ absurd (none s k)
+  ]
+
+  -- what a call carries comes from vertices that nothing comes to
+  abbrev High : Arrow ModuleVertex → Type 0
+  High arrow = level arrow.from.vertex ≡ 3
+
+  high_from : (u : ModuleVertex) (arrow : Arrow ModuleVertex) → u ≡ arrow.from → level u.vertex ≡ 3 → High arrow
+  high_from u arrow e h = sym (ap (λ (x : ModuleVertex). level x.vertex) e) ∙ h
+
+  call_high : (i : SiteInfo) (g : ℕ × FunctionInfo) (arrow : Arrow ModuleVertex) → i.args ≡ 0 → Contains (call_arrows (site_of 0 i) (callable_of 0 g)) arrow → High arrow
+  call_high i g arrow z h =
+      let s = site_of 0 i in
+      let f = callable_of 0 g in
+      elim (Contains-append_cases (into_params s.args f.params f.rest ++ to_each s.more (receivers f)) (record { from = f.ret; to = s.res } ∷ []) arrow h) [
+        | inl k ↦ elim (Contains-append_cases (into_params s.args f.params f.rest) (to_each s.more (receivers f)) arrow k) [
+          | inl m ↦ absurd (none arrow (subst (λ a. Contains (into_params (map (λ j. at_module 0 (Arg i.offset i.part j)) (range_with_len 0 a)) f.params f.rest) arrow) z m))
+          | inr m ↦ high_from s.more arrow (from_each s.more (receivers f) arrow m) refl
+        ]
+        | inr k ↦ high_from f.ret arrow (ap (λ (a : Arrow ModuleVertex). a.from) (only (record { from = f.ret; to = s.res }) arrow k)) refl
+      ]
+
+  callback_high : (i : SiteInfo) (g : ℕ × FunctionInfo) (arrow : Arrow ModuleVertex) → Contains (callback_arrows (at_module 0 Elem) (site_of 0 i) (callable_of 0 g)) arrow → High arrow
+  callback_high i g arrow h =
+      let s = site_of 0 i in
+      let f = callable_of 0 g in
+      elim (Contains-append_cases (to_each s.recv (receivers f) ++ to_each (at_module 0 Elem) (receivers f)) (record { from = f.ret; to = s.res } ∷ []) arrow h) [
+        | inl k ↦ elim (Contains-append_cases (to_each s.recv (receivers f)) (to_each (at_module 0 Elem) (receivers f)) arrow k) [
+          | inl m ↦ high_from s.recv arrow (from_each s.recv (receivers f) arrow m) refl
+          | inr m ↦ high_from (at_module 0 Elem) arrow (from_each (at_module 0 Elem) (receivers f) arrow m) refl
+        ]
+        | inr k ↦ high_from f.ret arrow (ap (λ (a : Arrow ModuleVertex). a.from) (only (record { from = f.ret; to = s.res }) arrow k)) refl
+      ]
+
+  too_high : {A : Type 0} (t : Value) (u v : ModuleVertex) → Came t u → High (record { from = u; to = v }) → A
+  too_high t u v h e = absurd (let low = came_low t u h in omega (arith, e))
+
+  along_flow : (t : Value) (u v : ModuleVertex) → Came t u → Contains (alone c).flows (record { from = u; to = v }) → Came t v
+  along_flow t u v (based b) f = once u b f
+  along_flow t u v (once s b g) f = twice s u b g f
+  along_flow t u v (twice s w b g k) f = absurd (let a = rises _ g in let b = rises _ k in let d = rises _ f in omega (arith, a.0, b.0, d.0, d.1))
+
+  along_reason : (t : Value) (u v : ModuleVertex) → Came t u → Reason (alone c) Came (record { from = u; to = v }) → Came t v
+  along_reason t u v h (flow f) = along_flow t u v h f
+  along_reason t u v h (call s f hs hf x k) =
+      let i = from_sites s hs in
+      let g = from_functions f hf in
+      let m = subst (λ s'. Contains (call_arrows s' f) (record { from = u; to = v })) (sym i.2) k in
+      too_high t u v h (call_high i.0 g.0 (record { from = u; to = v }) (plain.sites i.0 i.1) (subst (λ f'. Contains (call_arrows (site_of 0 i.0) f') (record { from = u; to = v })) (sym g.2) m))
+  along_reason t u v h (native s hs x k) =
+      let i = from_sites s hs in
+      too_high t u v h (high_from s.recv (record { from = u; to = v }) (ap (λ (a : Arrow ModuleVertex). a.from) (only (record { from = s.recv; to = s.res }) (record { from = u; to = v }) k)) (sym (ap (λ (s' : CallSite ModuleVertex). level s'.recv.vertex) i.2)))
+  along_reason t u v h (callback s f w hs hf hw x y k) =
+      let i = from_sites s hs in
+      let g = from_functions f hf in
+      let m = subst (λ s'. Contains (callback_arrows (at_module 0 Elem) s' f) (record { from = u; to = v })) (sym i.2) k in
+      too_high t u v h (callback_high i.0 g.0 (record { from = u; to = v }) (subst (λ f'. Contains (callback_arrows (at_module 0 Elem) (site_of 0 i.0) f') (record { from = u; to = v })) (sym g.2) m))
+
+  -- each value of the solution came there over two flows at most
+  pub came : (t : Value) (v : ModuleVertex) → InSolution (alone c) t v → Came t v
+  came t v h = least (alone c) Came (record { bases = λ t v b. based b; steps = along_reason }) h.0 t v h.1
+
+  -- a value that came to a vertex of a site comes to its callee alone
+  pub none_high : (t : Value) (v : ModuleVertex) → level v.vertex ≡ 3 → InSolution (alone c) t v → ⊥
+  none_high t v e h = let low = came_low t v (came t v h) in omega (arith, e)

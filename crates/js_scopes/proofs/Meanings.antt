@@ -69,3 +69,47 @@ meaning_of n k (x ∷ us) h u c =
 pub binding_there : (text : List ℕ) (tree : Tree) → Spells text tree → (u : Use) → Contains (uses_of tree) u → binding_of tree (use_name u).start ≡ binding_at (numbering_of tree) (use_around u) (use_name u)
 binding_there text tree s u c =
     ap (λ names. meaning names (use_name u).start) (names_told tree s.well.fit) ∙ meaning_of (numbering_of tree) 0 (uses_of tree) (uses_spaced text tree s) u c
+
+-- what follows a call or a declaration has its `(` behind it
+abbrev IsCallFrom : ℕ → Use → Type 0
+IsCallFrom k (called t o around) = k ≤ o.start
+IsCallFrom k (declared w d around) = Unit {0}
+
+call_from_head : (k : ℕ) (u : Use) (us : List Use) → Spaced k (u ∷ us) → IsCallFrom k u
+call_from_head k (called t o around) us h = omega (arith, h.0, h.1)
+call_from_head k (declared w d around) us h = tt
+
+call_from_later : (j k : ℕ) (u : Use) → j ≤ k → IsCallFrom k u → IsCallFrom j u
+call_from_later j k (called t o around) le h = omega (arith, le, h)
+call_from_later j k (declared w d around) le h = tt
+
+call_behind : (k : ℕ) (us : List Use) → Spaced k us → (u : Use) → Contains us u → IsCallFrom k u
+call_behind k [] h u c = absurd (none u c)
+call_behind k (x ∷ us) h u c =
+    let s = spaced_tail k x us h in
+    elim (cons_cases x us u c) [
+      | inl e ↦ subst (IsCallFrom k) e (call_from_head k x us h)
+      | inr g ↦ call_from_later k (use_end x) u (omega (arith, s.1, s.2)) (call_behind (use_end x) us s.0 u g)
+    ]
+
+no_later : (x : Use) (us : List Use) (t o : Token) (a : Around) → x ≡ called t o a → Spaced (use_end x) us → (t' o' : Token) (a' : Around) → Contains us (called t' o' a') → o.start ≡ o'.start → ⊥
+no_later x us t o a p s t' o' a' c e =
+    let behind = call_behind (use_end x) us s (called t' o' a') c in
+    let end = ap use_end p in
+    omega (arith, behind, end, e)
+
+-- two calls with one `(` are one
+pub one_call : (k : ℕ) (us : List Use) → Spaced k us → (t o t' o' : Token) (a a' : Around) → Contains us (called t o a) → Contains us (called t' o' a') → o.start ≡ o'.start → called t o a ≡ called t' o' a'
+one_call k [] h t o t' o' a a' c d e = absurd (none (called t o a) c)
+one_call k (x ∷ us) h t o t' o' a a' c d e =
+    let s = spaced_tail k x us h in
+    elim (cons_cases x us (called t o a) c) [
+      | inl p ↦ elim (cons_cases x us (called t' o' a') d) [
+        | inl q ↦ sym p ∙ q
+        | inr q ↦ absurd (no_later x us t o a p s.0 t' o' a' q e)
+      ]
+      | inr p ↦ elim (cons_cases x us (called t' o' a') d) [
+        | inl q ↦ absurd (no_later x us t' o' a' q s.0 t o a p (sym e))
+        | inr q ↦ one_call (use_end x) us s.0 t o t' o' a a' p q e
+      ]
+    ]
