@@ -1,3 +1,4 @@
 pub mod LeastSolution
 pub mod PlainSolution
 pub mod PlainCalls
+pub mod PlainCallees

@@ -64,7 +64,7 @@ module _ (c : ModuleConstraints) (plain : IsPlain c) where
       let P : Arrow ModuleVertex → Type 0 = λ a. (level a.from.vertex + 1 ≡ level a.to.vertex) × (level a.to.vertex ≤ 2) in
       subst P f.2 (plain.flows f.0 f.1)
 
-  base_low : (t : Value) (v : ModuleVertex) → IsBase (alone c) t v → level v.vertex ≤ 1
+  pub base_low : (t : Value) (v : ModuleVertex) → IsBase (alone c) t v → level v.vertex ≤ 1
   base_low t v (literal f h e g) =
       elim (Contains-append_cases (map (callable_of 0) (enumerate_from 0 c.functions)) [] f h) [
         | inl k ↦ (
@@ -94,13 +94,13 @@ module _ (c : ModuleConstraints) (plain : IsPlain c) where
     | inr g ↦ from_each u vs arrow g
   ]
 
-  from_functions : (f : Callable ModuleVertex Value) → Contains (alone c).functions f → (g : ℕ × FunctionInfo) × Contains (enumerate_from 0 c.functions) g × (callable_of 0 g ≡ f)
+  pub from_functions : (f : Callable ModuleVertex Value) → Contains (alone c).functions f → (g : ℕ × FunctionInfo) × Contains (enumerate_from 0 c.functions) g × (callable_of 0 g ≡ f)
   from_functions f h = elim (Contains-append_cases (map (callable_of 0) (enumerate_from 0 c.functions)) [] f h) [
     | inl k ↦ from_map (callable_of 0) (enumerate_from 0 c.functions) f k
     | inr k ↦ absurd (none f k)
   ]
 
-  from_sites : (s : CallSite ModuleVertex) → Contains (alone c).sites s → (i : SiteInfo) × Contains c.sites i × (site_of 0 i ≡ s)
+  pub from_sites : (s : CallSite ModuleVertex) → Contains (alone c).sites s → (i : SiteInfo) × Contains c.sites i × (site_of 0 i ≡ s)
   from_sites s h = elim (Contains-append_cases (map (site_of 0) c.sites) [] s h) [
     | inl k ↦ from_map (site_of 0) c.sites s k
     | inr k ↦ absurd (none s k)

@@ -5,3 +5,4 @@ pub mod UseLemmas
 pub mod Ascent
 pub mod Meanings
 pub mod Placed
+pub mod Counts
