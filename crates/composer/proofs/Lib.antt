@@ -2,3 +2,4 @@ pub mod LeastSolution
 pub mod PlainSolution
 pub mod PlainCalls
 pub mod PlainCallees
+pub mod PlainEdges

@@ -66,6 +66,9 @@ below s t h = grind (arith, nat_tests)
 below_too : (r s t : ℕ) → s < t → nat_lt r s ≡ true → nat_lt r t ≡ true
 below_too r s t h e = grind (arith, nat_tests)
 
+below_or_at : (r s t : ℕ) → s ≤ t → nat_lt r s ≡ true → nat_lt r t ≡ true
+below_or_at r s t h e = grind (arith, nat_tests)
+
 -- a function's number is below the count of functions
 pub number_in_range : (n : Numbering) (f : FunctionInfo) → Contains n.functions f → function_number n f.start < length n.functions + 1
 number_in_range n f c = let below = count_below (λ (g : FunctionInfo). nat_lt g.start f.start) n.functions f c (not_below f.start) in omega (arith, below)
@@ -75,3 +78,9 @@ pub numbers_ascend : (n : Numbering) (f : FunctionInfo) (start : ℕ) → Contai
 numbers_ascend n f start c h =
     let less = count_less (λ (g : FunctionInfo). nat_lt g.start f.start) (λ (g : FunctionInfo). nat_lt g.start start) (λ g e. below_too g.start f.start start h e) n.functions f c (not_below f.start) (below f.start start h) in
     omega (arith, less)
+
+-- what starts no earlier has no smaller number
+pub numbers_keep : (n : Numbering) (s t : ℕ) → s ≤ t → function_number n s ≤ function_number n t
+numbers_keep n s t h =
+    let more = count_more (λ (g : FunctionInfo). nat_lt g.start s) (λ (g : FunctionInfo). nat_lt g.start t) (λ g e. below_or_at g.start s t h e) n.functions in
+    omega (arith, more)
