@@ -3,3 +3,4 @@ pub mod PlainSolution
 pub mod PlainCalls
 pub mod PlainCallees
 pub mod PlainEdges
+pub mod OneList

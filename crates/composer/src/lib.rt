@@ -7,5 +7,5 @@ mod law;
 mod system;
 
 pub use application::{Link, ModuleVertex, Value};
-pub use law::least_solution;
+pub use law::{least_solution, one_edge_list, plain_module};
 pub use system::{Arrow, CallSite, Callable, System};
