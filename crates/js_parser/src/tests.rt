@@ -2,47 +2,34 @@
 ghost use Rattle.std.specs.Prelude.{◌≡◌, ◌<◌};
 
 use crate::{ParseFault, parse};
-use jam_base::Steps;
-use js_tree::{Function, Stmt, Tail, Tree};
-use sqlite_items::Items;
+use jam_base::{Steps, Text};
+use js_tree::{Expr, Function, Stmt, Tail, Token, Tree};
 use std::alloc::{AllocError, Global};
 use std::marker::Brand;
+use std::process::Abort;
 use std::sync::ledger::{Blank, Ledger};
 use std::test::Fail;
 
-fn read_with<L: Ledger>(alloc: Global, text: &str, blank: Blank) -> Result<Tree, ParseFault>
+fn read_with<L: Ledger>(alloc: Global, text: &Text, blank: Blank) -> Result<Tree, ParseFault>
     requires name { blank.name ≡ L.name }
     requires parts { blank.parts ≡ L.parts }
     requires some { 0 < L.parts }
 {
     let mut steps = Steps::<L>::new(blank);
-    parse(alloc, text, &mut steps)
+    parse(alloc, text.as_str(), &mut steps)
 }
 
 fn read(alloc: Global, text: &str) -> Result<Tree, ParseFault> {
-    read_with::<Brand>(alloc, text, Blank::new(1))
+    read_with::<Brand>(alloc, &Text::of(alloc, text)?, Blank::new(1))
 }
 
 /// The offset at which the text is refused, or none where it is accepted.
-fn refusal(alloc: Global, text: &str) -> Option<ParseFault> {
-    read(alloc, text).err()
-}
-
-/// The outline of statements: each name with its offset, `^` before it where a line end stands before it.
-fn outline(alloc: Global, body: &Items<Stmt>) -> Result<String, AllocError> {
-    let mut out = String::new(alloc);
-    for stmt in body.as_slice() {
-        match stmt {
-            Stmt::Plain { value, semi } => {
-                out.push_str(format!(in alloc; "{value:?}")?.as_str())?;
-                out.push_str(format!(in alloc; "{semi:?}")?.as_str())?;
-            }
-            Stmt::Fun { function } => {
-                out.push_str(format!(in alloc; "{function:?}")?.as_str())?;
-            }
-        }
+fn refused_at(alloc: Global, text: &str) -> Result<Option<u32>, ParseFault> {
+    match read(alloc, text) {
+        Ok(_) => Ok(None),
+        Err(ParseFault::NotInProfile { at }) => Ok(Some(at)),
+        Err(fault) => Err(fault),
     }
-    Ok(out)
 }
 
 #[test]
@@ -53,18 +40,152 @@ fn calls_and_declarations_are_read(rt: HostRuntime) -> Result<(), Fail> {
         "f();",
         "function f(){g();}",
         "\nf ( ) ;\n$_9();evals();functionf();",
+        "function function_(){function eval(){}}\n",
     ] {
-        assert_eq!(rt; refusal(rt.alloc(), text), None, "{text}");
+        assert_eq!(rt; refused_at(rt.alloc(), text)?, None, "{text}");
     }
     Ok(())
 }
 
 #[test]
-fn dump(rt: HostRuntime) -> Result<(), Fail> {
-    let Ok(tree) = read(rt.alloc(), "f();\n g\n();function f(){g();}") else {
-        return Ok(());
+fn other_texts_are_refused_where_reading_stops(rt: HostRuntime) -> Result<(), Fail> {
+    for (text, at) in [
+        ("f()", 3),
+        ("f() \n", 5),
+        ("functionf(){}", 11),
+        ("function f(){", 13),
+        ("function (){}", 9),
+        ("f();}", 4),
+        ("a b();", 2),
+        ("f();\n eval();", 6),
+        ("f()();", 3),
+        ("f;", 1),
+        ("{}", 0),
+        ("9();", 0),
+        ("f(é);", 2),
+        ("é", 0),
+        ("f\u{b}();", 1),
+    ] {
+        assert_eq!(rt; refused_at(rt.alloc(), text)?, Some(at), "{text}");
+    }
+    Ok(())
+}
+
+#[test]
+fn words_are_no_names(rt: HostRuntime) -> Result<(), Fail> {
+    let words = "break case catch class const continue debugger default delete do else enum export \
+                 extends false finally for function if import in instanceof let new null return super \
+                 switch this throw true try typeof var void while with";
+    let alloc = rt.alloc();
+    let mut count = 0u64;
+    for word in words.split(" ") {
+        let call = format!(in alloc; "{word}();")?;
+        assert!(rt; refused_at(alloc, call.as_str())?.is_some(), "{word}");
+        let declaration = format!(in alloc; "function {word}(){{}}")?;
+        assert_eq!(rt; refused_at(alloc, declaration.as_str())?, Some(9), "{word}");
+        count = count.wrapping_add(1);
+    }
+    assert_eq!(rt; count, 37);
+    Ok(())
+}
+
+/// So many declarations in one another around a call.
+fn nested(alloc: Global, depth: usize) -> Result<String, AllocError> {
+    let mut text = String::new(alloc);
+    for _ in 0..depth {
+        text.push_str("function f(){")?;
+    }
+    text.push_str("f();")?;
+    for _ in 0..depth {
+        text.push_str("}")?;
+    }
+    Ok(text)
+}
+
+#[test]
+fn a_tree_has_at_most_256_nodes_on_a_way(rt: HostRuntime) -> Result<(), Fail> {
+    let alloc = rt.alloc();
+    assert_eq!(rt; refused_at(alloc, nested(alloc, 253)?.as_str())?, None);
+    assert_eq!(rt;
+        refused_at(alloc, nested(alloc, 254)?.as_str())?,
+        Some(3302)
+    );
+    Ok(())
+}
+
+#[test]
+fn a_text_has_at_most_8388608_bytes(rt: HostRuntime) -> Result<(), Fail> {
+    let mut text = String::new(rt.alloc());
+    for _ in 0..131_072 {
+        text.push_str("                                                                ")?;
+    }
+    assert_eq!(rt; refused_at(rt.alloc(), text.as_str())?, None);
+    text.push_str("\n")?;
+    let fault = read(rt.alloc(), text.as_str()).err();
+    assert_eq!(rt; fault, Some(ParseFault::TooLarge { length: 8_388_609 }));
+    Ok(())
+}
+
+/// The token's text, start, class and line.
+fn told(alloc: Global, token: &Token) -> Result<String, AllocError> {
+    let Token {
+        text,
+        start,
+        class,
+        nl_before,
+    } = token;
+    format!(in alloc; "{} {start} {class:?} {nl_before}", text.as_str())
+}
+
+#[test]
+fn a_call_keeps_its_tokens(rt: HostRuntime) -> Result<(), Fail> {
+    let alloc = rt.alloc();
+    let tree = read(alloc, " f (\n) ;")?;
+    let [
+        Stmt::Plain {
+            value,
+            semi: Some(semi),
+        },
+    ] = tree.body.as_slice()
+    else {
+        panic!(&rt; "no call");
     };
-    let o = outline(rt.alloc(), &tree.body)?;
-    assert_eq!(rt; o.as_str(), "");
+    let Expr::Chain { head, tails } = value else {
+        panic!(&rt; "no chain");
+    };
+    let [Tail::Call(arguments)] = tails.as_slice() else {
+        panic!(&rt; "no arguments");
+    };
+    let Expr::Name(name) = head.get() else {
+        panic!(&rt; "no name");
+    };
+    assert_eq!(rt; told(alloc, name)?.as_str(), "f 1 Name false");
+    assert_eq!(rt; told(alloc, &arguments.open)?.as_str(), "( 3 Punct false");
+    assert_eq!(rt; told(alloc, &arguments.close)?.as_str(), ") 5 Punct true");
+    assert_eq!(rt; told(alloc, semi)?.as_str(), "; 7 Punct false");
+    Ok(())
+}
+
+#[test]
+fn a_declaration_keeps_its_tokens(rt: HostRuntime) -> Result<(), Fail> {
+    let alloc = rt.alloc();
+    let tree = read(alloc, "\rfunction f(){g();h();}")?;
+    let [Stmt::Fun { function }] = tree.body.as_slice() else {
+        panic!(&rt; "no declaration");
+    };
+    let Function::Keyword {
+        word,
+        name: Some(name),
+        params,
+        body,
+    } = function.get()
+    else {
+        panic!(&rt; "no name");
+    };
+    assert_eq!(rt; told(alloc, word)?.as_str(), "function 1 Word true");
+    assert_eq!(rt; told(alloc, name)?.as_str(), "f 10 Name false");
+    assert_eq!(rt; told(alloc, &params.close)?.as_str(), ") 12 Punct false");
+    assert_eq!(rt; told(alloc, &body.end)?.as_str(), "} 22 Punct false");
+    assert_eq!(rt; body.body.len(), 2);
     Ok(())
 }
