@@ -9,3 +9,6 @@ mod system;
 pub use application::{Link, ModuleVertex, Value};
 pub use law::{least_solution, one_edge_list, plain_module};
 pub use system::{Arrow, CallSite, Callable, System};
+mod plain;
+
+pub use plain::plain_edges;

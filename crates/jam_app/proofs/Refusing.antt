@@ -98,9 +98,9 @@ same_some e = cc
 
 -- a text is owed or a refusal, and not both
 pub no_refusal : (operand : List ℕ) (files : Files) (text : List ℕ) (owed : Refusal) → IsGraphText operand files text → IsRefusal operand files owed → ⊥
-no_refusal operand files text owed graph (no_entry none) = some_none (sym graph.found ∙ none)
-no_refusal operand files text owed graph (not_in_profile entry at found bad where_) =
-    bad graph.tree (subst (λ (m : Module). IsSpelled m.bytes graph.tree) (same_some (sym graph.found ∙ found)) graph.spelled)
+no_refusal operand files text owed owes (no_entry none) = some_none (sym owes.found ∙ none)
+no_refusal operand files text owed owes (not_in_profile entry at found bad where_) =
+    bad owes.graph.tree (subst (λ (m : Module). IsSpelled m.bytes owes.graph.tree) (same_some (sym owes.found ∙ found)) owes.graph.spelled)
 
 -- an operand that names no path of an entry
 pub no_path : (operand : List ℕ) (files : Option Files) (path : Option (List ℕ)) → path ≡ entry_path operand → path ≡ None

@@ -1,12 +1,13 @@
 //! The call graph of a module, as text.
-ghost use Rattle.std.specs.Prelude.{◌≡◌, ◌≤◌, true, false, IfSome, IfNone, IfOk, MatchResult};
-ghost use Rattle.jam_app.specs.Graphs.{IsSpelled, IsGraphText, is_ascii, graph_text as text_of_graph};
+ghost use Rattle.std.specs.Prelude.{◌≡◌, ◌≤◌, true, false, IfSome, IfNone, MatchResult};
+ghost use Rattle.jam_app.specs.Graphs.{IsSpelled, IsModuleGraph, IsGraphText, is_ascii};
 ghost use Rattle.jam_app.specs.Refusals.{IsRefusal};
 ghost use Rattle.jam_app.specs.Work.{Gives, HasBadCause, stop_of};
 
+use crate::edges::printed_edges;
 use crate::source::{Source, source_of};
 use crate::{Refusal, Stop};
-use jam_base::{Folder, ModulePath, OutOfMemory, Place, Steps, Text, place_of};
+use jam_base::{Folder, ModulePath, Place, Steps, Text, place_of};
 use js_parser::{ParseFault, parse};
 use js_tree::Tree;
 use std::alloc::Global;
@@ -52,13 +53,11 @@ fn start() -> Place
     }
 }
 
-// The tree that spells the text of a file.
-fn tree_of<L: Ledger>(alloc: Global, bytes: &[u8], steps: &mut Steps<L>) -> Result<Tree, Bad>
-    ensures { MatchResult result (IsSpelled bytes.now) (HasBadCause bytes.now) }
+// The tree that spells a text.
+fn tree_of<L: Ledger>(alloc: Global, text: &str, steps: &mut Steps<L>) -> Result<Tree, Bad>
+    requires { is_ascii text.now ≡ true }
+    ensures { MatchResult result (IsSpelled text.now) (HasBadCause text.now) }
 {
-    let Some(text) = ascii_text(bytes) else {
-        return Err(Bad::At(start()));
-    };
     match parse(alloc, text, steps) {
         Ok(tree) => Ok(tree),
         Err(ParseFault::TooLarge { length: _ }) => Err(Bad::At(start())),
@@ -67,11 +66,33 @@ fn tree_of<L: Ledger>(alloc: Global, bytes: &[u8], steps: &mut Steps<L>) -> Resu
     }
 }
 
-// The call edges as text. None are found yet.
-fn graph_text(alloc: Global, path: &str, tree: &Tree) -> Result<Text, OutOfMemory>
-    ensures { IfOk result (λ text. text ≡ text_of_graph path.now tree.now) }
+// The call graph of a module that stands alone, as text.
+fn module_graph<L: Ledger>(
+    alloc: Global,
+    path: &str,
+    bytes: &[u8],
+    steps: &mut Steps<L>,
+) -> Result<Text, Bad>
+    ensures { MatchResult result (IsModuleGraph path.now bytes.now) (HasBadCause bytes.now) }
 {
-    Text::of(alloc, "")
+    let Some(text) = ascii_text(bytes) else {
+        return Err(Bad::At(start()));
+    };
+    match tree_of(alloc, text, steps) {
+        Ok(tree) => printed_graph(alloc, path, text, &tree),
+        Err(bad) => Err(bad),
+    }
+}
+
+// The call graph of a module with this tree.
+fn printed_graph(alloc: Global, path: &str, text: &str, tree: &Tree) -> Result<Text, Bad>
+    requires { IsSpelled text.now tree.now }
+    ensures { MatchResult result (IsModuleGraph path.now text.now) (HasBadCause text.now) }
+{
+    match printed_edges(alloc, path, text, tree) {
+        Ok(printed) => Ok(printed),
+        Err(_) => Err(Bad::OutOfMemory),
+    }
 }
 
 /// The text that `graph` owes for the operand: the call edges of the entry.
@@ -87,8 +108,8 @@ pub(crate) fn graph<F: Folder, L: Ledger>(
     ensures later { F.faults folder.old ≤ F.faults folder.new }
 {
     let Source { path, bytes } = source_of(alloc, folder, operand)?;
-    match tree_of(alloc, bytes.as_slice(), steps) {
-        Ok(tree) => Ok(graph_text(alloc, path.as_str(), &tree)?),
+    match module_graph(alloc, path.as_str(), bytes.as_slice(), steps) {
+        Ok(text) => Ok(text),
         Err(bad) => Err(stop_for(path, bad)),
     }
 }

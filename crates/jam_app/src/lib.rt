@@ -1,6 +1,7 @@
 //! The top call of the tool: all that the program does, over a folder, a keeper and two sinks.
 #![tactic(auto)]
 
+mod edges;
 mod graph;
 mod message;
 mod refusal;

@@ -8,3 +8,6 @@ mod site;
 pub use binding::{Binding, WrapperName};
 pub use function::FunctionInfo;
 pub use site::SiteInfo;
+mod listing;
+
+pub use listing::functions;
