@@ -1,6 +1,6 @@
 -- There is one ascending list of given items.
-use Rattle.std.proofs.Common.{◌≡◌, Bool, true, false, List, [], ◌∷◌, refl, sym, ap, subst, ◌∙◌, inl, inr, rules}
-use Rattle.std.specs.Prelude.{Contains, ◌↔◌}
+use Rattle.std.proofs.Common.{◌≡◌, List, [], ◌∷◌, refl, sym, subst, ◌∙◌, inl, inr, rules}
+use Rattle.std.specs.Prelude.{Contains}
 use Rattle.std.specs.declared.cmp.Ordering.{Ordering}
 use Rattle.std.specs.declared.cmp.Ordering.TheVariants.{Less, Equal, Greater}
 use Rattle.std.specs.Cmp.{IsTotalOrder}
@@ -13,7 +13,7 @@ use Rattle.jam_base.specs.Edges.{edge_order}
 use Rattle.js_scopes.proofs.Members.{none, cons_cases, here, there}
 use Rattle.flow_rules.specs.Constraints.{ModuleConstraints}
 use Rattle.composer.specs.declared.application.Link.{Link}
-use Rattle.composer.specs.Edges.{IsEdge, IsEdgeList}
+use Rattle.composer.specs.Edges.{IsEdgeList}
 
 order_total : IsTotalOrder edge_order
 order_total = search (comparing, rules) depth 12
@@ -49,6 +49,7 @@ module _ {X : Type 0} {R : X → X → Ordering} (o : IsTotalOrder R) where
         | inl e ↦ sym e
         | inr p ↦ elim (cons_cases x xs y d) [ inl e ↦ e | inr q ↦ absurd (not_both x y (less_later x xs s.0 y q) (less_later y ys t.0 x p)) ]
       ]
+
       into_tail : (x y : X) (xs ys : List X) → x ≡ y → AllByRecursion (λ z. R x z ≡ Less) xs → (z : X) → Contains xs z → Contains (y ∷ ys) z → Contains ys z
       into_tail x y xs ys e h z c d = elim (cons_cases y ys z d) [
         | inl k ↦ absurd (not_itself x (subst (λ w. R x w ≡ Less) (sym (e ∙ k)) (less_later x xs h z c)))

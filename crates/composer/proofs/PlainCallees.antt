@@ -1,11 +1,10 @@
 -- The values at the callee of a plain call are those that looking up its name finds.
-use Rattle.std.proofs.Common.{◌≡◌, ℕ, ◌+◌, ◌<◌, ◌≤◌, Bool, true, false, List, [], ◌∷◌, ◌++◌, length, get_or, refl, sym, ap, subst, ◌∙◌, inl, inr, arith, map, Option, Some, None, ◌⊎◌, ◌==◌}
+use Rattle.std.proofs.Common.{◌≡◌, ℕ, ◌+◌, ◌<◌, true, List, [], ◌∷◌, ◌++◌, length, get_or, refl, sym, ap, subst, ◌∙◌, inl, inr, arith, map, Option, Some, None}
 use Rattle.std.specs.Prelude.{Contains}
-use Rattle.std.specs.List.{flat_map, enumerate_from, count_by}
+use Rattle.std.specs.List.{enumerate_from}
 use Rattle.std.proofs.lemmas.Bool.Decides.{nat_tests}
 use Rattle.std.proofs.lemmas.List.Elements.{Contains-append_left, Contains-get_or}
 use Rattle.std.proofs.lemmas.List.FromFn.{length-enumerate_from, get_or-enumerate_from}
-use Rattle.jam_base.specs.declared.edge.FunctionRef.{FunctionRef}
 use Rattle.js_tree.specs.declared.token.Token.{Token}
 use Rattle.js_tree.specs.declared.tree.Tree.{Tree}
 use Rattle.js_tree.specs.Spells.{Spells}
@@ -14,22 +13,22 @@ use Rattle.js_scopes.specs.declared.binding.Binding.TheVariants as binding
 use Rattle.js_scopes.specs.declared.binding.WrapperName.TheVariants as wrapper
 use Rattle.js_scopes.specs.declared.function.FunctionInfo.{FunctionInfo}
 use Rattle.js_scopes.specs.Names.{Numbering, Around, binding_at, function_number}
-use Rattle.js_scopes.specs.Scopes.{numbering_of, functions_of, inner_functions, binding_of}
+use Rattle.js_scopes.specs.Scopes.{numbering_of, functions_of, inner_functions}
 use Rattle.js_scopes.specs.Uses.{Use, called, declared, uses_of}
 use Rattle.js_scopes.proofs.Ascent.{uses_spaced}
 use Rattle.js_scopes.proofs.Counts.{number_in_range}
 use Rattle.js_scopes.proofs.Meanings.{binding_there, one_call}
-use Rattle.js_scopes.proofs.Members.{none, only, cons_cases, here, there, from_map, from_flat_map, into_map, into_flat_map}
+use Rattle.js_scopes.proofs.Members.{only, cons_cases, here, there, from_flat_map, into_map, into_flat_map}
 use Rattle.js_scopes.proofs.Placed.{placed, declared_locally}
 use Rattle.js_scopes.proofs.UseLemmas.{use_functions, functions_told}
 use Rattle.flow_rules.specs.declared.module.Flow.{Flow}
 use Rattle.flow_rules.specs.declared.vertex.Vertex.{Vertex}
-use Rattle.flow_rules.specs.declared.vertex.Vertex.TheVariants.{Prop, Elem, Global, Exports, Param, Rest, Ret, Lit, Callee, Arg, More, Recv, Res, Req, Var, Exp}
+use Rattle.flow_rules.specs.declared.vertex.Vertex.TheVariants.{Prop, Global, Lit, Callee, Var}
 use Rattle.flow_rules.specs.Flows.{flow, name_vertex, token_vertex, known_of, constraints_of}
 use Rattle.flow_rules.proofs.FlowLemmas.{use_flows}
 use Rattle.composer.specs.declared.application.ModuleVertex.{ModuleVertex}
 use Rattle.composer.specs.declared.application.Value.{Value}
-use Rattle.composer.specs.declared.application.Value.TheVariants.{Fun, Native}
+use Rattle.composer.specs.declared.application.Value.TheVariants.{Fun}
 use Rattle.composer.specs.declared.system.Arrow.{Arrow}
 use Rattle.composer.specs.declared.system.Callable.{Callable}
 use Rattle.composer.specs.Application.{at_module, callable_of, flow_of, native_places}
@@ -42,7 +41,6 @@ use Rattle.composer.specs.Solution.Reason.{flow as flow_reason}
 use Rattle.composer.proofs.LeastSolution.{solution_closed}
 use Rattle.composer.proofs.PlainSolution.{level, alone, Came, based, once, twice, came, from_flows, from_functions, base_low}
 use Rattle.composer.proofs.PlainCalls.{flow_ends, level_of_name, flow_from_use, flow_of_use, is_plain}
-
 
 abbrev global_name : Option Vertex → Option (List ℕ)
 global_name (Some (Global name)) = Some name
@@ -130,7 +128,7 @@ module _ (text : List ℕ) (tree : Tree) (spells : Spells text tree) where
   pub function_there : (w d : Token) (a : Around) → Contains (uses_of tree) (declared w d a) → Contains (inner_functions tree) (record { start = w.start; params = 0; name = d.text })
   function_there w d a k =
       subst (λ fs. Contains fs (record { start = w.start; params = 0; name = d.text })) (sym (functions_told tree spells.well.fit))
-          (into_flat_map use_functions (uses_of tree) (declared w d a) (record { start = w.start; params = 0; name = d.text }) k (here _ []))
+      (into_flat_map use_functions (uses_of tree) (declared w d a) (record { start = w.start; params = 0; name = d.text }) k (here _ []))
 
   -- so it stands at its literal from the start
   function_base : (w d : Token) (a : Around) → Contains (uses_of tree) (declared w d a) → (x : Value) → x ≡ Fun (record { «module» = 0; function = function_number n w.start })
@@ -147,9 +145,9 @@ module _ (text : List ℕ) (tree : Tree) (spells : Spells text tree) where
       let member' = subst (Contains (enumerate_from 0 fs)) item member in
       let first : 0 + number ≡ number = omega arith in
       literal (callable_of 0 (0 + number, get_or fs number g.1))
-          (Contains-append_left (map (callable_of 0) (enumerate_from 0 fs)) [] _ (into_map (callable_of 0) (enumerate_from 0 fs) (0 + number, get_or fs number g.1) member'))
-          (ap (λ i. Fun (record { «module» = 0; function = i })) first ∙ sym e)
-          (ap (λ i. at_module 0 (Lit i)) first)
+      (Contains-append_left (map (callable_of 0) (enumerate_from 0 fs)) [] _ (into_map (callable_of 0) (enumerate_from 0 fs) (0 + number, get_or fs number g.1) member'))
+      (ap (λ i. Fun (record { «module» = 0; function = i })) first ∙ sym e)
+      (ap (λ i. at_module 0 (Lit i)) first)
 
   module _ (t o : Token) (a : Around) (c : Contains (uses_of tree) (called t o a)) where
     abbrev IsThere : Value → Type 0
@@ -161,6 +159,7 @@ module _ (text : List ℕ) (tree : Tree) (spells : Spells text tree) where
       where
         u : (u : Use) × Contains (uses_of tree) u × Contains (use_flows (known_of tree) u) f
         u = flow_from_use text tree spells f h
+
         by_use : (u : Use) → Contains (uses_of tree) u → Contains (use_flows (known_of tree) u) f → name_vertex (binding_at n a t) t.text ≡ Some f.from
         by_use (declared w d a') k g =
             let ends = flow_ends (Some (Lit ((known_of tree).number w.start))) (token_vertex (known_of tree) d) f g in
@@ -187,7 +186,7 @@ module _ (text : List ℕ) (tree : Tree) (spells : Spells text tree) where
           | inr k ↦ (
               let g = global_vertex (binding_at n a t) t.text p.0 (v ∙ ap (λ (w : ModuleVertex). Some w.vertex) (sym (only (at_module 0 (Global p.0)) u k))) in
               a_native g.0 (subst (Contains native_names) (sym g.1) p.1) e
-            )
+              )
         ]
 
     -- a base that flows to a name's vertex is a function that a declaration of the name declares
@@ -196,6 +195,7 @@ module _ (text : List ℕ) (tree : Tree) (spells : Spells text tree) where
       where
         r : (u : Use) × Contains (uses_of tree) u × Contains (use_flows (known_of tree) u) f
         r = flow_from_use text tree spells f h
+
         by_base : (k : ℕ) → IsBase (alone (constraints_of tree)) x u → u.vertex ≡ Lit k → x ≡ Fun (record { «module» = 0; function = k })
         by_base k (literal g gs gx gu) at =
             let p = from_functions (constraints_of tree) (is_plain text tree spells) g gs in
@@ -207,6 +207,7 @@ module _ (text : List ℕ) (tree : Tree) (spells : Spells text tree) where
               | inl w ↦ absurd (omega (arith, ap (λ (z : ModuleVertex). level z.vertex) w, ap level at))
               | inr w ↦ absurd (omega (arith, ap (λ (z : ModuleVertex). level z.vertex) (only (at_module 0 (Global p.0)) u w), ap level at))
             ]
+
         by_use : (u : Use) → Contains (uses_of tree) u → Contains (use_flows (known_of tree) u) f → IsThere x
         by_use (called t' o' a') k g =
             let ends = flow_ends (token_vertex (known_of tree) t') (Some (Callee o'.start 0)) f g in
@@ -243,13 +244,13 @@ module _ (text : List ℕ) (tree : Tree) (spells : Spells text tree) where
     into_flows : (f : Flow) → Contains (constraints_of tree).flows f → Contains (alone (constraints_of tree)).flows (flow_of 0 f)
     into_flows f h =
         Contains-append_left (map (flow_of 0) (constraints_of tree).flows ++ []) [] (flow_of 0 f)
-            (Contains-append_left (map (flow_of 0) (constraints_of tree).flows) [] (flow_of 0 f) (into_map (flow_of 0) (constraints_of tree).flows f h))
+        (Contains-append_left (map (flow_of 0) (constraints_of tree).flows) [] (flow_of 0 f) (into_map (flow_of 0) (constraints_of tree).flows f h))
 
     -- the flow from the name's vertex to the callee
     call_flow : (v : Vertex) → name_vertex (binding_at n a t) t.text ≡ Some v → Contains (flow (Some v) (Some (Callee o.start 0))) (record { from = v; to = Callee o.start 0 }) → Contains (constraints_of tree).flows (record { from = v; to = Callee o.start 0 })
     call_flow v e h =
         flow_of_use text tree spells (called t o a) (record { from = v; to = Callee o.start 0 }) c
-            (subst (λ w. Contains (flow w (Some (Callee o.start 0))) (record { from = v; to = Callee o.start 0 })) (sym (call_vertex t o a c ∙ e)) h)
+        (subst (λ w. Contains (flow w (Some (Callee o.start 0))) (record { from = v; to = Callee o.start 0 })) (sym (call_vertex t o a c ∙ e)) h)
 
     -- and each value that looking up the name finds comes to the callee
     pub values_come : (x : Value) → IsThere x → InSolution (alone (constraints_of tree)) x (at_module 0 (Callee o.start 0))
@@ -263,7 +264,7 @@ module _ (text : List ℕ) (tree : Tree) (spells : Spells text tree) where
         let number = function_number n w.start in
         let v = Var one.0 in
         let declared_flow = flow_of_use text tree spells (declared w d a') (record { from = Lit number; to = v }) k
-            (subst (λ z. Contains (flow (Some (Lit number)) z) (record { from = Lit number; to = v })) (sym (declared_vertex w d a' k ∙ ap (λ b. name_vertex b d.text) one.1)) (here _ [])) in
+        (subst (λ z. Contains (flow (Some (Lit number)) z) (record { from = Lit number; to = v })) (sym (declared_vertex w d a' k ∙ ap (λ b. name_vertex b d.text) one.1)) (here _ [])) in
         let start = closed.bases x (at_module 0 (Lit number)) (function_base w d a' k x e) in
         let middle = closed.steps x (at_module 0 (Lit number)) (at_module 0 v) start (flow_reason (into_flows (record { from = Lit number; to = v }) declared_flow)) in
         closed.steps x (at_module 0 v) (at_module 0 (Callee o.start 0)) middle (flow_reason (into_flows (record { from = v; to = Callee o.start 0 }) (call_flow v (ap (λ b. name_vertex b t.text) one.2) (here _ []))))

@@ -1,27 +1,21 @@
 -- The values at the callee of a plain call: the functions that the name's declarations declare, or a native for a global of such a name.
-use Rattle.std.proofs.Common.{◌≡◌, ℕ, ◌+◌, ◌<◌, ◌≤◌, Bool, true, false, List, [], ◌∷◌, ◌++◌, refl, sym, ap, subst, ◌∙◌, inl, inr, arith, map, Option, Some, None, ◌⊎◌, if◌then◌else◌, eqb, ◌==◌}
+use Rattle.std.proofs.Common.{◌≡◌, ℕ, ◌+◌, ◌≤◌, Bool, true, false, List, [], ◌∷◌, refl, sym, ap, subst, ◌∙◌, arith, Option, Some, None, if◌then◌else◌}
 use Rattle.std.specs.Prelude.{Contains}
-use Rattle.std.specs.List.{flat_map, enumerate_from}
 use Rattle.std.specs.Str.{bytes_eq}
-use Rattle.js_tree.specs.declared.token.Token.{Token}
 use Rattle.js_tree.specs.declared.tree.Tree.{Tree}
 use Rattle.js_tree.specs.Spells.{Spells}
 use Rattle.js_scopes.specs.declared.binding.Binding.{Binding}
 use Rattle.js_scopes.specs.declared.binding.Binding.TheVariants as binding
 use Rattle.js_scopes.specs.declared.binding.WrapperName.TheVariants as wrapper
 use Rattle.js_scopes.specs.declared.site.SiteInfo.{SiteInfo}
-use Rattle.js_scopes.specs.Names.{Numbering, Around, binding_at, function_number}
-use Rattle.js_scopes.specs.Scopes.{numbering_of, sites_of, binding_of}
+use Rattle.js_scopes.specs.Scopes.{sites_of}
 use Rattle.js_scopes.specs.Uses.{Use, called, declared, uses_of}
-use Rattle.js_scopes.proofs.Ascent.{uses_spaced}
-use Rattle.js_scopes.proofs.Meanings.{binding_there, one_call}
-use Rattle.js_scopes.proofs.Members.{none, only, cons_cases, here, there, from_map, from_flat_map, into_map, into_flat_map}
-use Rattle.js_scopes.proofs.Placed.{placed, declared_locally}
+use Rattle.js_scopes.proofs.Members.{none, only, from_flat_map, into_flat_map}
 use Rattle.js_scopes.proofs.UseLemmas.{use_sites, sites_told}
 use Rattle.flow_rules.specs.declared.module.Flow.{Flow}
 use Rattle.flow_rules.specs.declared.vertex.Vertex.{Vertex}
-use Rattle.flow_rules.specs.declared.vertex.Vertex.TheVariants.{Prop, Elem, Global, Exports, Param, Rest, Ret, Lit, Callee, Arg, More, Recv, Res, Req, Var, Exp}
-use Rattle.flow_rules.specs.Flows.{flow, name_vertex, token_vertex, known_of, flows_of, constraints_of}
+use Rattle.flow_rules.specs.declared.vertex.Vertex.TheVariants.{Lit, Callee}
+use Rattle.flow_rules.specs.Flows.{flow, name_vertex, token_vertex, known_of, constraints_of}
 use Rattle.flow_rules.specs.Vertices.{vertex_key}
 use Rattle.flow_rules.proofs.FlowLemmas.{use_flows, flows_told, from_constraints, into_constraints}
 use Rattle.composer.proofs.PlainSolution.{level, IsPlain}

@@ -1,8 +1,7 @@
 -- The edges that looking up the names of a module finds are its call edges, in order.
-use Rattle.std.proofs.Common.{◌≡◌, ◌≢◌, ℕ, zero, suc, ◌+◌, ◌<◌, ◌≤◌, Bool, true, false, cond, List, [], ◌∷◌, ◌++◌, refl, sym, ap, subst, ◌∙◌, inl, inr, arith, map, Option, Some, None, ◌⊎◌, nat_lt, ◌==◌, if◌then◌else◌, slice_get}
+use Rattle.std.proofs.Common.{◌≡◌, ℕ, zero, suc, ◌+◌, ◌<◌, ◌≤◌, Bool, true, false, List, [], ◌∷◌, ◌++◌, refl, sym, ap, subst, ◌∙◌, arith, map, Option, Some, None, if◌then◌else◌, slice_get}
 use Rattle.std.specs.Prelude.{Contains}
-use Rattle.std.specs.declared.cmp.Ordering.{Ordering}
-use Rattle.std.specs.declared.cmp.Ordering.TheVariants.{Less, Equal, Greater}
+use Rattle.std.specs.declared.cmp.Ordering.TheVariants.{Less, Equal}
 use Rattle.std.specs.Ordering.{nat_cmp, ordering_then}
 use Rattle.std.specs.List.{flat_map, AllByRecursion}
 use Rattle.std.specs.List.Sorted.{IsStrictlySortedBy}
@@ -16,22 +15,21 @@ use Rattle.js_tree.specs.Spells.{Spells}
 use Rattle.js_scopes.specs.declared.binding.Binding.{Binding}
 use Rattle.js_scopes.specs.declared.site.SiteInfo.{SiteInfo}
 use Rattle.js_scopes.specs.Names.{Numbering, Around, binding_at, function_number}
-use Rattle.js_scopes.specs.Scopes.{numbering_of, sites_of}
+use Rattle.js_scopes.specs.Scopes.{numbering_of}
 use Rattle.js_scopes.specs.Uses.{Use, called, declared, uses_of}
 use Rattle.js_scopes.proofs.Ascent.{Spaced, uses_spaced}
 use Rattle.js_scopes.proofs.Counts.{numbers_ascend, numbers_keep}
-use Rattle.js_scopes.proofs.Members.{none, only, cons_cases, here, there, from_map, from_flat_map, into_map, into_flat_map}
+use Rattle.js_scopes.proofs.Members.{none, only, here, there, from_map, from_flat_map, into_map, into_flat_map}
 use Rattle.js_scopes.proofs.UseLemmas.{use_sites, sites_told}
 use Rattle.flow_rules.specs.Constraints.{ModuleConstraints}
 use Rattle.flow_rules.specs.Flows.{constraints_of}
-use Rattle.composer.specs.declared.application.Link.{Link}
 use Rattle.composer.specs.declared.application.ModuleVertex.{ModuleVertex}
 use Rattle.composer.specs.declared.application.Value.{Value}
 use Rattle.composer.specs.declared.application.Value.TheVariants.{Fun, Native}
 use Rattle.flow_rules.specs.declared.vertex.Vertex.TheVariants.{More}
-use Rattle.composer.specs.Application.{at_module, site_of, system_of}
+use Rattle.composer.specs.Application.{at_module, site_of}
 use Rattle.composer.specs.Steps.{inputs}
-use Rattle.composer.specs.Edges.{IsEdge, IsSiteOf, IsRequireOf, IsEdgeList}
+use Rattle.composer.specs.Edges.{IsEdge, IsEdgeList}
 use Rattle.composer.specs.Edges.IsEdge.{call, callback, require}
 use Rattle.composer.specs.Plain.{are_one, declared_as, edge_of, use_edges, plain_edges}
 use Rattle.composer.specs.PlainCallees.{IsCalleeOf, a_function, a_native}
@@ -71,6 +69,7 @@ module _ (text : List ℕ) (tree : Tree) (spells : Spells text tree) where
     where
       p : (u : Use) × Contains (uses_of tree) u × Contains (use_edges (numbering_of tree) (uses_of tree) u) edge
       p = from_flat_map (use_edges (numbering_of tree) (uses_of tree)) (uses_of tree) edge h
+
       at_call : (t o : Token) (a : Around) → Contains (uses_of tree) (called t o a) → (f : ℕ) → Contains (flat_map (declared_as (numbering_of tree) (binding_at (numbering_of tree) a t)) (uses_of tree)) f → IsEdge (c ∷ []) [] (edge_of a.holder o.start f)
       at_call t o a k f g =
           let s : SiteInfo = record { offset = o.start; part = 0; holder = a.holder; args = 0 } in
@@ -79,6 +78,7 @@ module _ (text : List ℕ) (tree : Tree) (spells : Spells text tree) where
           let site : Contains c.sites s = subst (λ ss. Contains ss s) (sym (sites_told tree spells.well.fit)) (into_flat_map use_sites (uses_of tree) (called t o a) s k (here s [])) in
           let callee = a_function r.0 r.1 r.2 (subst (Contains (uses_of tree)) r.3 q.1) r.4 (ap (λ i. Fun (record { «module» = 0; function = i })) r.5) in
           call s (record { constraints = c; here = refl; site = site; offset = refl; holder = refl }) (values_come text tree spells t o a k (Fun (record { «module» = 0; function = f })) callee)
+
       by_use : (u : Use) → Contains (uses_of tree) u → Contains (use_edges (numbering_of tree) (uses_of tree) u) edge → IsEdge (c ∷ []) [] edge
       by_use (declared w d a) k g = absurd (none edge g)
       by_use (called t o a) k g =
@@ -96,6 +96,7 @@ module _ (text : List ℕ) (tree : Tree) (spells : Spells text tree) where
     where
       p : (u : Use) × Contains (uses_of tree) u × Contains (use_sites u) s
       p = site_from_use text tree spells s h
+
       by_use : (u : Use) → Contains (uses_of tree) u → Contains (use_sites u) s → (t : Token) × (o : Token) × (a : Around) × Contains (uses_of tree) (called t o a) × (record { offset = o.start; part = 0; holder = a.holder; args = 0 } ≡ s)
       by_use (declared w d a) k g = absurd (none s g)
       by_use (called t o a) k g = (t, o, a, k, only (record { offset = o.start; part = 0; holder = a.holder; args = 0 }) s g)
@@ -125,7 +126,7 @@ module _ (text : List ℕ) (tree : Tree) (spells : Spells text tree) where
             callee = sym callee i;
           } in
           subst (Contains (plain_edges tree)) is
-              (into_flat_map (use_edges (numbering_of tree) (uses_of tree)) (uses_of tree) (called t o a) (edge_of a.holder o.start f) k (into_map (edge_of a.holder o.start) fs f number))
+          (into_flat_map (use_edges (numbering_of tree) (uses_of tree)) (uses_of tree) (called t o a) (edge_of a.holder o.start f) k (into_map (edge_of a.holder o.start) fs f number))
   looked_up edge (callback s w i hn hw hf) =
       let m = the_module edge.caller.module i.constraints i.here in
       let k = the_call s (subst (λ (x : ModuleConstraints). Contains x.sites s) (sym m.1) i.site) in
@@ -222,6 +223,7 @@ module _ (n : Numbering) (b : Binding) where
     where
       ascends : function_number n w.start < function_number n (d.start + 1)
       ascends = numbers_ascend n (record { start = w.start; params = 0; name = d.text }) (d.start + 1) (f w d a (here (declared w d a) us)) (omega (arith, s.1))
+
       by_test : Rising (function_number n (d.start + 1)) (flat_map (declared_as n b) us) → (x : Bool) → Rising (function_number n k) ((if x then function_number n w.start ∷ [] else []) ++ flat_map (declared_as n b) us)
       by_test later true = (
         numbers_keep n k w.start s.0,
@@ -239,12 +241,11 @@ module _ (n : Numbering) (uses : List Use) (rise : (b : Binding) → Rising (fun
       (later.0, from_offset k (d.start + 1) (flat_map (use_edges n uses) us) (omega (arith, s.0, s.1)) later.1)
   edges_sorted (called t o a ∷ us) k s =
       let later = edges_sorted us (o.start + 1) s.2 in
-      let fs = flat_map (declared_as n (binding_at n a t)) uses in
-      (
+      let fs = flat_map (declared_as n (binding_at n a t)) uses in (
         call_before a.holder o.start (function_number n 0) fs (flat_map (use_edges n uses) us) (rise (binding_at n a t)) later.1 later.0,
         from_offset k o.start (map (edge_of a.holder o.start) fs ++ flat_map (use_edges n uses) us) (omega (arith, s.0, s.1))
             (all_both (FromOffset o.start) (map (edge_of a.holder o.start) fs) (flat_map (use_edges n uses) us) (call_from a.holder o.start fs)
-                (from_offset o.start (o.start + 1) (flat_map (use_edges n uses) us) (omega arith) later.1)),
+            (from_offset o.start (o.start + 1) (flat_map (use_edges n uses) us) (omega arith) later.1)),
       )
 
 -- the edges that looking up the names of a module finds are its call edges, in order

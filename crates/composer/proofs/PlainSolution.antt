@@ -1,15 +1,14 @@
 -- Which values come to the callees of plain calls.
-use Rattle.std.proofs.Common.{◌≡◌, ℕ, ◌+◌, ◌<◌, ◌≤◌, List, [], ◌∷◌, ◌++◌, refl, sym, ap, subst, ◌∙◌, inl, inr, arith, map, ◌⊎◌}
+use Rattle.std.proofs.Common.{◌≡◌, ℕ, ◌+◌, ◌≤◌, List, [], ◌∷◌, ◌++◌, refl, sym, ap, subst, ◌∙◌, inl, inr, arith, map}
 use Rattle.std.specs.Prelude.{Contains}
-use Rattle.std.specs.List.{flat_map, enumerate_from, range_with_len}
-use Rattle.std.proofs.lemmas.List.Elements.{Contains-append_cases, Contains-append_left}
-use Rattle.js_tree.specs.declared.tree.Tree.{Tree}
+use Rattle.std.specs.List.{enumerate_from, range_with_len}
+use Rattle.std.proofs.lemmas.List.Elements.{Contains-append_cases}
 use Rattle.js_scopes.specs.declared.function.FunctionInfo.{FunctionInfo}
 use Rattle.js_scopes.specs.declared.site.SiteInfo.{SiteInfo}
-use Rattle.js_scopes.proofs.Members.{none, only, cons_cases, here, there, from_map, from_flat_map, into_map, into_flat_map}
+use Rattle.js_scopes.proofs.Members.{none, only, cons_cases, from_map, from_flat_map}
 use Rattle.flow_rules.specs.declared.module.Flow.{Flow}
 use Rattle.flow_rules.specs.declared.vertex.Vertex.{Vertex}
-use Rattle.flow_rules.specs.declared.vertex.Vertex.TheVariants.{Prop, Elem, Global, Exports, Param, Rest, Ret, Lit, Callee, Arg, More, Recv, Res, Req, Var, Exp}
+use Rattle.flow_rules.specs.declared.vertex.Vertex.TheVariants.{Prop, Elem, Global, Exports, Lit, Callee, Arg, Var}
 use Rattle.flow_rules.specs.Constraints.{ModuleConstraints}
 use Rattle.composer.specs.declared.application.ModuleVertex.{ModuleVertex}
 use Rattle.composer.specs.declared.application.Value.{Value}
@@ -19,11 +18,11 @@ use Rattle.composer.specs.declared.system.CallSite.{CallSite}
 use Rattle.composer.specs.declared.system.System.{System}
 use Rattle.composer.specs.Application.{at_module, callable_of, site_of, flow_of, native_places, system_of}
 use Rattle.composer.specs.Natives.{native_names}
-use Rattle.composer.specs.Solution.{IsBase, Reason, InSolution, IsClosed}
+use Rattle.composer.specs.Solution.{IsBase, Reason, InSolution}
 use Rattle.composer.specs.Solution.IsBase.{literal, native as native_base}
 use Rattle.composer.specs.Solution.Reason.{flow, call, native, callback}
-use Rattle.composer.specs.Steps.{into_params, to_each, receivers, inputs, call_arrows, native_arrows, callback_arrows}
-use Rattle.composer.proofs.LeastSolution.{least, solution_closed}
+use Rattle.composer.specs.Steps.{into_params, to_each, receivers, call_arrows, callback_arrows}
+use Rattle.composer.proofs.LeastSolution.{least}
 
 -- the application of one module
 abbrev pub alone : ModuleConstraints → System ModuleVertex Value
@@ -72,7 +71,7 @@ module _ (c : ModuleConstraints) (plain : IsPlain c) where
             let at = ap (λ (x : Callable ModuleVertex Value). level x.literal.vertex) m.2 in
             let there = ap (λ (x : ModuleVertex). level x.vertex) g in
             omega (arith, at, there)
-          )
+            )
         | inr k ↦ absurd (none f k)
       ]
   base_low t v (native_base e h) =

@@ -1,5 +1,6 @@
 pub mod Application
 pub mod Edges
+pub mod Found
 pub mod Natives
 pub mod Plain
 pub mod PlainCallees

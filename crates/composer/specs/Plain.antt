@@ -2,11 +2,10 @@
 use Rattle.std.specs.Prelude.{ℕ, ◌==◌, Bool, false, if◌then◌else◌, List, [], ◌∷◌, map}
 use Rattle.std.specs.List.{flat_map}
 use Rattle.jam_base.specs.declared.edge.Edge.{Edge}
-use Rattle.js_tree.specs.declared.token.Token.{Token}
 use Rattle.js_tree.specs.declared.tree.Tree.{Tree}
 use Rattle.js_scopes.specs.declared.binding.Binding.{Binding}
-use Rattle.js_scopes.specs.declared.binding.Binding.TheVariants.{Local, Wrapper, Arguments, Global}
-use Rattle.js_scopes.specs.Names.{Numbering, Around, binding_at, function_number}
+use Rattle.js_scopes.specs.declared.binding.Binding.TheVariants.{Local}
+use Rattle.js_scopes.specs.Names.{Numbering, binding_at, function_number}
 use Rattle.js_scopes.specs.Scopes.{numbering_of}
 use Rattle.js_scopes.specs.Uses.{Use, called, declared, uses_of}
 

@@ -1,5 +1,5 @@
 -- What a plain call calls.
-use Rattle.std.specs.Prelude.{◌≡◌, ℕ, true, List, Contains}
+use Rattle.std.specs.Prelude.{◌≡◌, true, List, Contains}
 use Rattle.js_tree.specs.declared.token.Token.{Token}
 use Rattle.js_scopes.specs.declared.binding.Binding.TheVariants.{Global}
 use Rattle.js_scopes.specs.Names.{Numbering, Around, binding_at, function_number}

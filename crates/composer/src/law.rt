@@ -24,14 +24,12 @@ ghost use Rattle.composer.specs.Solution.{InSolution, IsClosed, Has};
 pub fn least_solution<V, T>()
     ensures closed { (a : AnySystem V T) → IsClosed a (InSolution a) }
     ensures least { (a : AnySystem V T) (has : T → V → Bool) → IsClosed a (Has has) → (t : T) (v : V) → InSolution a t v → IsTrue (has t v) }
-{
-}
+{}
 
 /// The call edges of an application stand in one list.
 pub fn one_edge_list()
     ensures { (modules : List ModuleConstraints) (links : List AnyLink) (xs ys : List CallEdge) → IsEdgeList modules links xs → IsEdgeList modules links ys → xs ≡ ys }
-{
-}
+{}
 
 /// Of a module of plain declarations and calls that stands alone: the values at the callee of a call are
 /// those that looking up the called name finds, and so are the call edges.
@@ -39,5 +37,4 @@ pub fn plain_module()
     ensures callees { (text : List ℕ) (tree : Tree) → Spells text tree → (t o : Token) (around : Around) → Contains (uses_of tree) (called t o around)
         → (x : AnyValue) → InSolution (system_of (constraints_of tree ∷ []) []) x (at_module 0 (Callee o.start 0)) ↔ IsCalleeOf (numbering_of tree) (uses_of tree) t around x }
     ensures edges { (text : List ℕ) (tree : Tree) → Spells text tree → IsEdgeList (constraints_of tree ∷ []) [] (plain_edges tree) }
-{
-}
+{}

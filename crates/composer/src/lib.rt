@@ -3,6 +3,7 @@
 #![tactic(auto)]
 
 mod application;
+mod found;
 mod law;
 mod system;
 

@@ -1,5 +1,5 @@
 -- The flows of a tree come from its calls and declarations.
-use Rattle.std.proofs.Common.{◌≡◌, ℕ, List, ◌++◌, [], ◌∷◌, refl, sym, ap, ◌∙◌, Some, append-nil}
+use Rattle.std.proofs.Common.{◌≡◌, List, ◌++◌, [], sym, ap, ◌∙◌, Some, append-nil}
 use Rattle.std.specs.Prelude.{Contains}
 use Rattle.std.specs.List.{flat_map, AllByRecursion}
 use Rattle.js_tree.specs.declared.token.Token.{Token}
@@ -11,7 +11,7 @@ use Rattle.js_tree.specs.declared.tree.Stmt.{Stmt}
 use Rattle.js_tree.specs.declared.tree.Stmt.TheVariants as statement
 use Rattle.js_tree.specs.declared.tree.Tree.{Tree}
 use Rattle.js_tree.specs.Spelling.{AreFit, stmts}
-use Rattle.js_tree.proofs.WellFormed.{WellSteps, each_fit, call_of}
+use Rattle.js_tree.proofs.WellFormed.{each_fit, call_of}
 use Rattle.js_scopes.specs.Names.{Numbering, Around}
 use Rattle.js_scopes.specs.Scopes.{inside, numbering_of, around_module}
 use Rattle.js_scopes.specs.Uses as used
@@ -53,7 +53,7 @@ pub flows_told : (tree : Tree) → AreFit (stmts tree.body []) → flows_of tree
 flows_told tree fit =
     let all = each_fit TellsFlows (record { call = at_call; declaration = at_declaration }) tree.body fit in
     told_by (use_flows (known_of tree)) (λ x. (used.stmt x).uses (numbering_of tree) (around_module tree)) (λ x. (flows.stmt x).flows (known_of tree)) tree.body
-        (every TellsFlows _ (λ x t. t (known_of tree) (numbering_of tree) (around_module tree)) tree.body all)
+    (every TellsFlows _ (λ x t. t (known_of tree) (numbering_of tree) (around_module tree)) tree.body all)
 
 -- a flow of the constraints is one of the tree, and the other way round
 pub from_constraints : (tree : Tree) (f : Flow) → Contains (ascending flow_order (flows_of tree)) f → Contains (flows_of tree) f

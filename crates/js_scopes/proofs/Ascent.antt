@@ -87,7 +87,7 @@ call_spaced : (t : Token) (a : Arguments) (semi : Token) → IsSpaced (statement
 call_spaced t a semi n around k rest us asc f =
     let g = subst (Ascends k) (call_tokens t a semi rest) asc in
     subst (λ (u : Used). Spaced k (u.uses n around ++ us)) (sym (use_laws.at_call t a (Some semi)))
-        (g.0, omega (arith, g.1.0), f (a.open.start + 1) (ascends_from (a.open.start + 1) (semi.start + 1) (tokens rest) (omega (arith, g.1.1.0, g.1.1.1.0)) g.1.1.1.1))
+    (g.0, omega (arith, g.1.0), f (a.open.start + 1) (ascends_from (a.open.start + 1) (semi.start + 1) (tokens rest) (omega (arith, g.1.1.0, g.1.1.1.0)) g.1.1.1.1))
 
 declaration_tokens : (word name : Token) (params : Params) (body : Block Stmt) (rest : List Piece) → tokens ((spelling.stmt (statement.Fun (made.Keyword word (Some name) params body))).line rest)
     ≡ word ∷ name ∷ params.open ∷ params.close ∷ body.begin ∷ tokens (stmts body.body (one body.end RIGHT_BRACE rest))
@@ -101,7 +101,7 @@ declaration_spaced word name params body h n around k rest us asc f =
     let within = inside n around word.start (use_laws.body_scope body) in
     let later = ascends_from (name.start + 1) (body.begin.start + 1) (tokens (stmts body.body (one body.end RIGHT_BRACE rest))) (omega (arith, g.1.1.0, g.1.1.1.0, g.1.1.1.1.0)) g.1.1.1.1.1 in
     subst (λ (u : Used). Spaced k (u.uses n around ++ us)) (sym (use_laws.at_declaration word name params body))
-        (g.0, omega (arith, g.1.0), list_spaced body.body h n within (name.start + 1) (one body.end RIGHT_BRACE rest) us later (λ j e. f j (ascends_from j (body.end.start + 1) (tokens rest) (omega (arith, e.0)) e.1)))
+    (g.0, omega (arith, g.1.0), list_spaced body.body h n within (name.start + 1) (one body.end RIGHT_BRACE rest) us later (λ j e. f j (ascends_from j (body.end.start + 1) (tokens rest) (omega (arith, e.0)) e.1)))
 
 pub uses_spaced : (text : List ℕ) (tree : Tree) → Spells text tree → Spaced 0 (uses_of tree)
 uses_spaced text tree s =

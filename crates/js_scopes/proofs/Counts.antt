@@ -49,12 +49,12 @@ count_less p q f (y ∷ xs) x c no' yes' =
           let one = ap one_if (ap q same ∙ yes') in
           let rest = count_more p q f xs in
           omega (arith, counted, others, zero, one, rest)
-        )
+          )
       | inr g ↦ (
           let head = one_if_more (p y) (q y) (f y) in
           let later = count_less p q f xs x g no' yes' in
           omega (arith, counted, others, head, later)
-        )
+          )
     ]
 
 not_below : (s : ℕ) → nat_lt s s ≡ false

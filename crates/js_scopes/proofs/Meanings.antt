@@ -62,7 +62,7 @@ meaning_of n k (x ∷ us) h u c =
       | inr g ↦ (
           let later = spaced_behind (use_end x) us s.0 u g in
           test_other (use_name x).start (use_name u).start _ _ (omega (arith, s.1)) ∙ meaning_of n (use_end x) us s.0 u g
-        )
+          )
     ]
 
 -- the name of a call or a declaration of a tree means what it means among the scopes around it

@@ -64,7 +64,7 @@ declaration_placed word name params body h n around scope outer e f u c =
 pub placed : (tree : Tree) → AreFit (stmts tree.body []) → (u : Use) → Contains (uses_of tree) u → DeclaresHere u
 placed tree fit u c =
     list_placed tree.body (each_fit ArePlaced (record { call = call_placed; declaration = declaration_placed }) tree.body fit) (numbering_of tree) (around_module tree) []
-        (ap (λ s. s ∷ []) (sym (same_scope tree.body (all_told tree fit)))) u c
+    (ap (λ s. s ∷ []) (sym (same_scope tree.body (all_told tree fit)))) u c
 
 same_name : (t d : Token) → t ≡ d → bytes_eq t.text d.text ≡ false → ⊥
 same_name t d e differs = true≢false (sym ((bytes_eq-Decides t.text d.text).1 (ap (λ (x : Token). x.text) e)) ∙ differs)

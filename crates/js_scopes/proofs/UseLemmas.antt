@@ -101,14 +101,14 @@ module _ (tree : Tree) (fit : AreFit (stmts tree.body [])) where
   pub functions_told : inner_functions tree ≡ flat_map use_functions (uses_of tree)
   functions_told =
       told_by use_functions (λ x. (used.stmt x).uses (numbering_of tree) (around_module tree)) (λ x. (scopes.stmt x).functions) tree.body
-          (every Told _ (λ x t. t.functions (numbering_of tree) (around_module tree)) tree.body (all_told tree fit))
+      (every Told _ (λ x t. t.functions (numbering_of tree) (around_module tree)) tree.body (all_told tree fit))
 
   pub names_told : names_of tree ≡ flat_map (use_names (numbering_of tree)) (uses_of tree)
   names_told =
       told_by (use_names (numbering_of tree)) (λ x. (used.stmt x).uses (numbering_of tree) (around_module tree)) (λ x. (scopes.stmt x).names (numbering_of tree) (around_module tree)) tree.body
-          (every Told _ (λ x t. t.names (numbering_of tree) (around_module tree)) tree.body (all_told tree fit))
+      (every Told _ (λ x t. t.names (numbering_of tree) (around_module tree)) tree.body (all_told tree fit))
 
   pub sites_told : sites_of tree ≡ flat_map use_sites (uses_of tree)
   sites_told =
       told_by use_sites (λ x. (used.stmt x).uses (numbering_of tree) (around_module tree)) (λ x. (scopes.stmt x).sites (numbering_of tree) (around_module tree)) tree.body
-          (every Told _ (λ x t. t.sites (numbering_of tree) (around_module tree)) tree.body (all_told tree fit))
+      (every Told _ (λ x t. t.sites (numbering_of tree) (around_module tree)) tree.body (all_told tree fit))

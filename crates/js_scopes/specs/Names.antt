@@ -63,8 +63,8 @@ wrapper_name name =
 abbrev pub undeclared : List ℕ → ℕ → Binding
 undeclared name holder =
     elim (wrapper_name name) [
-      Some w ↦ binding.Wrapper w
-    | None ↦ if bytes_eq name (codes "arguments") then binding.Arguments holder else binding.Global
+      | Some w ↦ binding.Wrapper w
+      | None ↦ if bytes_eq name (codes "arguments") then binding.Arguments holder else binding.Global
     ]
 
 -- what the name that is this token means where it stands
