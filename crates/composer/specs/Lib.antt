@@ -6,3 +6,4 @@ pub mod Plain
 pub mod PlainCallees
 pub mod Solution
 pub mod Steps
+pub mod Walk

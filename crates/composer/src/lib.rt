@@ -5,11 +5,11 @@
 mod application;
 mod found;
 mod law;
+mod plain;
 mod system;
+mod walk;
 
 pub use application::{Link, ModuleVertex, Value};
 pub use law::{least_solution, one_edge_list, plain_module};
-pub use system::{Arrow, CallSite, Callable, System};
-mod plain;
-
 pub use plain::plain_edges;
+pub use system::{Arrow, CallSite, Callable, System};

@@ -21,21 +21,21 @@ use Rattle.js_tree.specs.declared.tree.Tail.TheVariants as tail
 use Rattle.js_tree.proofs.WellFormed.{call_of}
 use Rattle.js_scopes.specs.Names.{Scope}
 use Rattle.js_scopes.specs.Scopes.{inside}
-use Rattle.js_scopes.specs.Uses.{Use, called, declared, Used, expr_step, function_step, stmt_step, expr, function, stmt}
+use Rattle.js_scopes.specs.Uses.{Use, called, declared, Used, own_pair, expr_step, function_step, stmt_step, expr, function, stmt}
 
-at-Name : (t : Token) → expr (expression.Name t) ≡ expr_step (Expr-F.Name t)
+pub at-Name : (t : Token) → expr (expression.Name t) ≡ expr_step (Expr-F.Name t)
 unfolding expr
 at-Name t = ap expr (sym (rolls-Name t)) ∙ fold-roll-Expr Used expr_step (Expr-F.Name t)
 
-at-Chain : (head : Expr) (tails : List Tail) → expr (expression.Chain head tails) ≡ expr_step (Expr-F.Chain (expr head) tails)
+pub at-Chain : (head : Expr) (tails : List Tail) → expr (expression.Chain head tails) ≡ expr_step (Expr-F.Chain (expr head) tails)
 unfolding expr
 at-Chain head tails = ap expr (sym (rolls-Chain head tails)) ∙ fold-roll-Expr Used expr_step (Expr-F.Chain head tails)
 
-at-Plain : (value : Expr) (semi : Option Token) → stmt (statement.Plain value semi) ≡ expr value
+pub at-Plain : (value : Expr) (semi : Option Token) → stmt (statement.Plain value semi) ≡ expr value
 unfolding function stmt
 at-Plain value semi = ap stmt (sym (rolls-Plain value semi)) ∙ fold-roll-Stmt Used Used function_step stmt_step (Stmt-F.Plain value semi)
 
-at-Fun : (f : Function) → stmt (statement.Fun f) ≡ stmt_step (Stmt-F.Fun (function f))
+pub at-Fun : (f : Function) → stmt (statement.Fun f) ≡ stmt_step (Stmt-F.Fun (function f))
 unfolding function stmt
 at-Fun f = ap stmt (sym (rolls-Fun f)) ∙ fold-roll-Stmt Used Used function_step stmt_step (Stmt-F.Fun f)
 
@@ -50,15 +50,23 @@ at_call t a semi = at-Plain (call_of t a) semi ∙ at-Chain (expression.Name t) 
 abbrev pub body_scope : Block Stmt → Scope
 body_scope body = flat_map (λ x. (stmt x).declares) body.body
 
-at_keyword : (word name : Token) (params : Params) (body : Block Stmt) → function (made.Keyword word (Some name) params body)
-    ≡ record { names = []; own = (word, name) ∷ []; declares = []; uses = λ n around. flat_map (λ x. (stmt x).uses n (inside n around word.start (body_scope body))) body.body }
+-- what is seen of a function
+abbrev pub keyword_seen : Token → Option Token → Block Stmt → Used
+keyword_seen word name body = record {
+  names = [];
+  own = own_pair word name;
+  declares = [];
+  uses = λ n around. flat_map (λ x. (stmt x).uses n (inside n around word.start (body_scope body))) body.body;
+}
+
+pub at-Keyword : (word : Token) (name : Option Token) (params : Params) (body : Block Stmt) → function (made.Keyword word name params body) ≡ keyword_seen word name body
 unfolding function stmt
-at_keyword word name params body =
+at-Keyword word name params body =
     let scope_same = flat_map-map (λ (x : Used). x.declares) stmt body.body in
-    ap function (sym (rolls-Keyword word (Some name) params body)) ∙ fold-roll-Function Used Used function_step stmt_step (Function-F.Keyword word (Some name) params body)
+    ap function (sym (rolls-Keyword word name params body)) ∙ fold-roll-Function Used Used function_step stmt_step (Function-F.Keyword word name params body)
     ∙ (λ i. record {
       names = [];
-      own = (word, name) ∷ [];
+      own = own_pair word name;
       declares = [];
       uses = λ n around. flat_map-map (λ (x : Used). x.uses n (inside n around word.start (scope_same i))) stmt body.body i;
     })
@@ -73,4 +81,4 @@ declaration_seen word name body = record {
 }
 
 pub at_declaration : (word name : Token) (params : Params) (body : Block Stmt) → stmt (statement.Fun (made.Keyword word (Some name) params body)) ≡ declaration_seen word name body
-at_declaration word name params body = at-Fun (made.Keyword word (Some name) params body) ∙ ap (λ f. stmt_step (Stmt-F.Fun f)) (at_keyword word name params body)
+at_declaration word name params body = at-Fun (made.Keyword word (Some name) params body) ∙ ap (λ f. stmt_step (Stmt-F.Fun f)) (at-Keyword word (Some name) params body)
