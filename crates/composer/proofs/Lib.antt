@@ -4,4 +4,5 @@ pub mod PlainCalls
 pub mod PlainCallees
 pub mod PlainEdges
 pub mod OneList
+pub mod FoundEdges
 pub mod WalkLemmas

@@ -20,7 +20,7 @@ use Rattle.js_scopes.specs.Names.{Scope, Numbering, Around, first_in, declarer}
 use Rattle.js_scopes.specs.Uses.{Used, Use, expr, function, stmt, own_pair, name_calls}
 use Rattle.js_scopes.proofs.UseLaws.{at-Name, at-Chain, at-Plain, at-Fun, at-Keyword}
 use Rattle.composer.specs.Found.{declarer_start}
-use Rattle.composer.specs.Walk.{tokens_of, scopes_of, call_uses, IsCallOf}
+use Rattle.composer.specs.Walk.{tokens_of, scopes_of, call_uses, opening_of, both, IsCallOf}
 
 start : Token → ℕ
 start t = t.start
@@ -37,10 +37,33 @@ no_declares x = by_kind (kind x)
     by_kind (IsName t e) = ap (λ (s : Used). s.declares) (ap expr e ∙ at-Name t)
     by_kind (IsChain head tails e) = ap (λ (s : Used). s.declares) (ap expr e ∙ at-Chain head tails)
 
--- only a name is a name
-pub names_of_other : (x : Expr) → ((t : Token) → x ≡ expression.Name t → ⊥) → (expr x).names ≡ []
-names_of_other x other = by_kind (kind x)
-  where
-    by_kind : Kind x → (expr x).names ≡ []
-    by_kind (IsName t e) = absurd (other t e)
-    by_kind (IsChain head tails e) = ap (λ (s : Used). s.names) (ap expr e ∙ at-Chain head tails)
+-- a chain is no name
+pub no_names : (head : Expr) (tails : List Tail) → (expr (expression.Chain head tails)).names ≡ []
+no_names head tails = ap (λ (s : Used). s.names) (at-Chain head tails)
+
+pub name_is : (t : Token) → (expr (expression.Name t)).names ≡ t ∷ []
+name_is t = ap (λ (s : Used). s.names) (at-Name t)
+
+-- a name is no call
+pub name_calls_none : (x : Expr) (t : Token) → x ≡ expression.Name t → IsCallOf x None
+name_calls_none x t e n around = ap (λ (s : Used). s.uses n around) (ap expr e ∙ at-Name t)
+
+called_as : (name : Option Token) (tails : List Tail) (around : Around) → name_calls (tokens_of name) tails around ≡ call_uses (both name (opening_of tails)) around
+called_as None tails around = refl
+called_as (Some t) [] around = refl
+called_as (Some t) (tail.Call a ∷ tails) around = refl
+
+-- a chain calls its head by its first tail
+pub chain_calls : (x head : Expr) (tails : List Tail) (name opening : Option Token) (call : Option (Token × Token)) → x ≡ expression.Chain head tails
+    → tokens_of name ≡ (expr head).names → opening ≡ opening_of tails → call ≡ both name opening → IsCallOf x call
+chain_calls x head tails name opening call is named opens calls n around =
+    ap (λ (s : Used). s.uses n around) (ap expr is ∙ at-Chain head tails)
+    ∙ ap (λ (ts : List Token). name_calls ts tails around) (sym named)
+    ∙ called_as name tails around
+    ∙ ap (λ (o : Option Token). call_uses (both name o) around) (sym opens)
+    ∙ ap (λ (c : Option (Token × Token)). call_uses c around) (sym calls)
+
+-- the name of a function, as its line has it
+pub own_name_is : (f : Function) (word : Token) (name : Option Token) (params : Params) (body : Block Stmt) → f ≡ made.Keyword word name params body
+    → tokens_of name ≡ map (λ p. p.1) (function f).own
+own_name_is f word name params body e = own_tokens word name ∙ sym (ap (λ (s : Used). map (λ (p : Token × Token). p.1) s.own) (ap function e ∙ at-Keyword word name params body))

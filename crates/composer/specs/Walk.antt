@@ -6,6 +6,8 @@ use Rattle.js_tree.specs.declared.token.Token.{Token}
 use Rattle.js_tree.specs.declared.tree.Expr.{Expr}
 use Rattle.js_tree.specs.declared.tree.Function.{Function}
 use Rattle.js_tree.specs.declared.tree.Stmt.{Stmt}
+use Rattle.js_tree.specs.declared.tree.Tail.{Tail}
+use Rattle.js_tree.specs.declared.tree.Tail.TheVariants as tail
 use Rattle.js_scopes.specs.Names.{Scope, Numbering, Around}
 use Rattle.js_scopes.specs.Uses as used
 use Rattle.js_scopes.specs.Uses.{Use, called, declaration}
@@ -25,6 +27,21 @@ around_of s = record { scopes = scopes_of s.scopes.now; holder = s.holder }
 abbrev pub tokens_of : Option Token → List Token
 tokens_of None = []
 tokens_of (Some t) = t ∷ []
+
+-- the `(` of a call
+abbrev pub open_of : Tail → Token
+open_of (tail.Call a) = a.open
+
+-- the `(` of the first call
+abbrev pub opening_of : List Tail → Option Token
+opening_of [] = None
+opening_of (x ∷ xs) = Some (open_of x)
+
+-- both, where both are there
+abbrev pub both : Option Token → Option Token → Option (Token × Token)
+both None b = None
+both (Some a) None = None
+both (Some a) (Some b) = Some (a, b)
 
 -- the call of a name, where there is one
 abbrev pub call_uses : Option (Token × Token) → Around → List Use

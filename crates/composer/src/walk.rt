@@ -95,16 +95,50 @@ fn own_name(function: &Function) -> Option<&Token>
     }
 }
 
+// The name that an expression is.
+fn name_of(value: &Expr) -> Option<&Token>
+    ensures { walk.tokens_of (option_map (λ t. t.now) result) ≡ (used.expr value.now).names }
+{
+    match value {
+        Expr::Name(name) => Some(name),
+        Expr::Chain { head: _, tails: _ } => None,
+    }
+}
+
+// The `(` of the first tail.
+fn opening(tails: &[Tail]) -> Option<&Token>
+    ensures { option_map (λ t. t.now) result ≡ walk.opening_of tails.now }
+{
+    match tails.first() {
+        None => None,
+        Some(tail) => Some(open_of(tail)),
+    }
+}
+
+fn open_of(tail: &Tail) -> &Token
+    ensures { result.now ≡ walk.open_of tail.now }
+{
+    match tail {
+        Tail::Call(arguments) => &arguments.open,
+    }
+}
+
 // The call that an expression is, where it is a call of a name: the name, and the `(`.
 fn called_name(value: &Expr) -> Option<(&Token, &Token)>
     ensures { walk.IsCallOf value.now (option_map (λ p. (p.0.now, p.1.now)) result) }
 {
     match value {
         Expr::Name(_) => None,
-        Expr::Chain { head, tails } => match (head.get(), tails.as_slice()) {
-            (Expr::Name(name), [Tail::Call(arguments), ..]) => Some((name, &arguments.open)),
-            _ => None,
-        },
+        Expr::Chain { head, tails } => both(name_of(head.get()), opening(tails.as_slice())),
+    }
+}
+
+fn both<'t>(name: Option<&'t Token>, open: Option<&'t Token>) -> Option<(&'t Token, &'t Token)>
+    ensures { option_map (λ p. (p.0.now, p.1.now)) result ≡ walk.both (option_map (λ t. t.now) name.entry) (option_map (λ t. t.now) open.entry) }
+{
+    match (name, open) {
+        (Some(name), Some(open)) => Some((name, open)),
+        _ => None,
     }
 }
 
