@@ -4,3 +4,4 @@ pub mod PlainCalls
 pub mod PlainCallees
 pub mod PlainEdges
 pub mod OneList
+pub mod SameDeclarers

@@ -87,7 +87,7 @@ at_declaration word name params body = at-Fun (made.Keyword word (Some name) par
 pub no_functions : (x : Expr) → (expr x).functions ≡ []
 no_functions x =
     each_expr (λ y. (expr y).functions ≡ []) (λ t. ap (λ (s : Scoped). s.functions) (at-Name t))
-        (λ head tails h. ap (λ (s : Scoped). s.functions) (at-Chain head tails) ∙ h) x
+    (λ head tails h. ap (λ (s : Scoped). s.functions) (at-Chain head tails) ∙ h) x
 
 -- the functions of a function with the word `function`
 pub keyword_functions : (f : Function) (word : Token) (name : Option Token) (params : Params) (body : Block Stmt) → f ≡ made.Keyword word name params body

@@ -71,7 +71,10 @@ fn push_function(
 {
     match function {
         Function::Keyword {
-            word, name, body, ..
+            word,
+            name,
+            body,
+            ..
         } => {
             out.push(FunctionInfo {
                 start: word.start,

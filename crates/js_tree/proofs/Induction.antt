@@ -44,8 +44,8 @@ module _ (P : Function → Type 0) (Q : Stmt → Type 0) (steps : Steps P Q) whe
 pub each_expr : (P : Expr → Type 0) → ((t : Token) → P (expression.Name t)) → ((head : Expr) (tails : List Tail) → P head → P (expression.Chain head tails)) → (x : Expr) → P x
 each_expr P name chain x =
     ind-Expr P
-        (λ x' y. elim y as (λ z. map-Expr _ Expr (λ e. e.0) z ≡ x' → P (roll-Expr x')) [
-          Expr-F.Name t ↦ λ e. subst (λ l. P (roll-Expr l)) e (subst P (sym (rolls-Name t)) (name t))
-        | Expr-F.Chain head tails ↦ λ e. subst (λ l. P (roll-Expr l)) e (subst P (sym (rolls-Chain head.0 tails)) (chain head.0 tails head.1))
-        ])
-        x
+    (λ x' y. elim y as (λ z. map-Expr _ Expr (λ e. e.0) z ≡ x' → P (roll-Expr x')) [
+      | Expr-F.Name t ↦ λ e. subst (λ l. P (roll-Expr l)) e (subst P (sym (rolls-Name t)) (name t))
+      | Expr-F.Chain head tails ↦ λ e. subst (λ l. P (roll-Expr l)) e (subst P (sym (rolls-Chain head.0 tails)) (chain head.0 tails head.1))
+    ])
+    x

@@ -27,10 +27,10 @@ push_function-returns t c = by_kind (function_kind c.args.function.now)
         let a : c.as_slice.result.now ≡ body.body = c.as_slice.ensures ∙ ap (λ v. v.1.1.1.0.body) (ap (values_d enum 0 _) e ∙ values_d_at enum 0 _ (word, (name, (params, (body, tt))))) in
         let n : c.in_ok-name_text.field-0 ≡ seen.name_of name = c.in_ok-name_text.ensures ∙ ap (λ v. seen.name_of v.1.0) (ap (values_d enum 0 _) e ∙ values_d_at enum 0 _ (word, (name, (params, (body, tt))))) in
         let p : c.push.new.self.items ≡ c.args.out.now.items ++ record { start = word.start; params = 0; name = c.in_ok-name_text.field-0 } ∷ [] =
-            (c.in_ok-push.ensures {u = tt}).items ∙ ap (λ v. c.args.out.now.items ++ record { start = v.0.start; params = 0; name = c.in_ok-name_text.field-0 } ∷ []) (ap (values_d enum 0 _) e ∙ values_d_at enum 0 _ (word, (name, (params, (body, tt))))) in
+        (c.in_ok-push.ensures {u = tt}).items ∙ ap (λ v. c.args.out.now.items ++ record { start = v.0.start; params = 0; name = c.in_ok-name_text.field-0 } ∷ []) (ap (values_d enum 0 _) e ∙ values_d_at enum 0 _ (word, (name, (params, (body, tt))))) in
         let info : FunctionInfo = record { start = word.start; params = 0; name = c.in_ok-name_text.field-0 } in
         let inner = flat_map (λ x. (seen.stmt x).functions) body.body in
         let same = (λ i. p i ++ flat_map (λ x. (seen.stmt x).functions) (a i)) ∙ append_assoc c.args.out.now.items (info ∷ []) inner
-            ∙ (λ i. c.args.out.now.items ++ (record { start = word.start; params = 0; name = n i } ∷ inner))
-            ∙ sym (ap (λ fs. c.args.out.now.items ++ fs) (keyword_functions c.args.function.now word name params body e)) in
+        ∙ (λ i. c.args.out.now.items ++ (record { start = word.start; params = 0; name = n i } ∷ inner))
+        ∙ sym (ap (λ fs. c.args.out.now.items ++ fs) (keyword_functions c.args.function.now word name params body e)) in
         subst (λ z. OnOk c.push_functions.result (c.push_functions.new.out.items ≡ z)) same c.push_functions.ensures
