@@ -6,3 +6,4 @@ pub mod PlainEdges
 pub mod OneList
 pub mod FoundEdges
 pub mod WalkLemmas
+pub mod SameDeclarers

@@ -1,4 +1,5 @@
 pub mod Application
+pub mod Declarers
 pub mod Edges
 pub mod Found
 pub mod Natives

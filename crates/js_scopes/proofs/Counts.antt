@@ -57,13 +57,13 @@ count_less p q f (y ∷ xs) x c no' yes' =
           )
     ]
 
-not_below : (s : ℕ) → nat_lt s s ≡ false
+pub not_below : (s : ℕ) → nat_lt s s ≡ false
 not_below s = grind (arith, nat_tests)
 
-below : (s t : ℕ) → s < t → nat_lt s t ≡ true
+pub below : (s t : ℕ) → s < t → nat_lt s t ≡ true
 below s t h = grind (arith, nat_tests)
 
-below_too : (r s t : ℕ) → s < t → nat_lt r s ≡ true → nat_lt r t ≡ true
+pub below_too : (r s t : ℕ) → s < t → nat_lt r s ≡ true → nat_lt r t ≡ true
 below_too r s t h e = grind (arith, nat_tests)
 
 below_or_at : (r s t : ℕ) → s ≤ t → nat_lt r s ≡ true → nat_lt r t ≡ true

@@ -18,6 +18,7 @@ use Rattle.js_tree.specs.declared.tree.Stmt.TheVariants as statement
 use Rattle.js_tree.specs.declared.tree.Stmt.TheVariants.{rolls-Plain, rolls-Fun}
 use Rattle.js_tree.specs.declared.tree.Tail.{Tail}
 use Rattle.js_tree.specs.declared.tree.Tail.TheVariants as tail
+use Rattle.js_tree.proofs.Induction.{each_expr}
 use Rattle.js_tree.proofs.WellFormed.{call_of}
 use Rattle.js_scopes.specs.declared.function.FunctionInfo.{FunctionInfo}
 use Rattle.js_scopes.specs.Names.{Scope}
@@ -81,3 +82,14 @@ declaration_seen word name params body = stmt_step (Stmt-F.Fun (keyword_seen wor
 
 pub at_declaration : (word name : Token) (params : Params) (body : Block Stmt) → stmt (statement.Fun (made.Keyword word (Some name) params body)) ≡ declaration_seen word name params body
 at_declaration word name params body = at-Fun (made.Keyword word (Some name) params body) ∙ ap (λ f. stmt_step (Stmt-F.Fun f)) (at-Keyword word (Some name) params body)
+
+-- expressions have no functions in this grammar
+pub no_functions : (x : Expr) → (expr x).functions ≡ []
+no_functions x =
+    each_expr (λ y. (expr y).functions ≡ []) (λ t. ap (λ (s : Scoped). s.functions) (at-Name t))
+    (λ head tails h. ap (λ (s : Scoped). s.functions) (at-Chain head tails) ∙ h) x
+
+-- the functions of a function with the word `function`
+pub keyword_functions : (f : Function) (word : Token) (name : Option Token) (params : Params) (body : Block Stmt) → f ≡ made.Keyword word name params body
+    → (function f).functions ≡ record { start = word.start; params = 0; name = name_of name } ∷ flat_map (λ x. (stmt x).functions) body.body
+keyword_functions f word name params body e = ap (λ (s : Scoped). s.functions) (ap function e ∙ at-Keyword word name params body)

@@ -6,3 +6,4 @@ pub mod Ascent
 pub mod Meanings
 pub mod Placed
 pub mod Counts
+pub mod Declarers

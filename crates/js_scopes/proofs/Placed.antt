@@ -36,7 +36,7 @@ ArePlaced x =
     (n : Numbering) (around : Around) (scope : Scope) (outer : List Scope) → around.scopes ≡ scope ∷ outer
     → ((d : Token) → Contains (used.stmt x).declares d → Contains scope d) → (u : Use) → Contains ((used.stmt x).uses n around) u → DeclaresHere u
 
-all_in : {X : Type 0} (P : X → Type 0) (xs : List X) → AllByRecursion P xs → (x : X) → Contains xs x → P x
+pub all_in : {X : Type 0} (P : X → Type 0) (xs : List X) → AllByRecursion P xs → (x : X) → Contains xs x → P x
 all_in P [] h x c = absurd (none x c)
 all_in P (y ∷ xs) h x c = elim (cons_cases y xs x c) [ inl e ↦ subst P e h.0 | inr g ↦ all_in P xs h.1 x g ]
 

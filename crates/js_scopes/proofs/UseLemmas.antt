@@ -94,8 +94,12 @@ at_declaration word name params body h =
           ∙ sym (ap (λ (x : Used). flat_map use_sites (x.uses n around)) u);
     }
 
+-- both kinds of statements
+pub told_steps : WellSteps Told
+told_steps = record { call = at_call; declaration = at_declaration }
+
 pub all_told : (tree : Tree) → AreFit (stmts tree.body []) → AllByRecursion Told tree.body
-all_told tree fit = each_fit Told (record { call = at_call; declaration = at_declaration }) tree.body fit
+all_told tree fit = each_fit Told told_steps tree.body fit
 
 module _ (tree : Tree) (fit : AreFit (stmts tree.body [])) where
   pub functions_told : inner_functions tree ≡ flat_map use_functions (uses_of tree)

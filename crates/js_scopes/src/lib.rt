@@ -6,8 +6,5 @@ mod function;
 mod site;
 
 pub use binding::{Binding, WrapperName};
-pub use function::FunctionInfo;
+pub use function::{FunctionInfo, functions};
 pub use site::SiteInfo;
-mod listing;
-
-pub use listing::functions;

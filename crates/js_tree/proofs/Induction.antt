@@ -3,7 +3,10 @@ use Rattle.std.proofs.Common.{◌≡◌, List, [], ◌∷◌, map, sym, subst, O
 use Rattle.std.specs.List.{AllByRecursion}
 use Rattle.js_tree.specs.declared.token.Token.{Token}
 use Rattle.js_tree.specs.declared.tree.Block.{Block}
-use Rattle.js_tree.specs.declared.tree.Expr.{Expr}
+use Rattle.js_tree.specs.declared.tree.Expr.{Expr, Expr-F, ind-Expr, map-Expr, roll-Expr}
+use Rattle.js_tree.specs.declared.tree.Expr.TheVariants as expression
+use Rattle.js_tree.specs.declared.tree.Expr.TheVariants.{rolls-Name, rolls-Chain}
+use Rattle.js_tree.specs.declared.tree.Tail.{Tail}
 use Rattle.js_tree.specs.declared.tree.Function.{Function, map-Function, roll-Function}
 use Rattle.js_tree.specs.declared.tree.Function.TheOpen.{Function-F, Stmt-F}
 use Rattle.js_tree.specs.declared.tree.Function.TheVariants as made
@@ -36,3 +39,13 @@ module _ (P : Function → Type 0) (Q : Stmt → Type 0) (steps : Steps P Q) whe
         | Stmt-F.Fun f ↦ λ e. subst (λ l. Q (roll-Stmt l)) e (subst Q (sym (rolls-Fun f.0)) (steps.fun f.0 f.1))
       ])
       x
+
+-- what holds of a name, and of a chain where it holds of its head, holds of every expression
+pub each_expr : (P : Expr → Type 0) → ((t : Token) → P (expression.Name t)) → ((head : Expr) (tails : List Tail) → P head → P (expression.Chain head tails)) → (x : Expr) → P x
+each_expr P name chain x =
+    ind-Expr P
+    (λ x' y. elim y as (λ z. map-Expr _ Expr (λ e. e.0) z ≡ x' → P (roll-Expr x')) [
+      | Expr-F.Name t ↦ λ e. subst (λ l. P (roll-Expr l)) e (subst P (sym (rolls-Name t)) (name t))
+      | Expr-F.Chain head tails ↦ λ e. subst (λ l. P (roll-Expr l)) e (subst P (sym (rolls-Chain head.0 tails)) (chain head.0 tails head.1))
+    ])
+    x
