@@ -1,9 +1,11 @@
 -- What a walk over a tree finds at each kind of node.
-use Rattle.std.proofs.Common.{◌≡◌, ℕ, ◌+◌, ◌<◌, Bool, true, false, cond, List, [], ◌∷◌, ◌++◌, length, drop, get_or, map, Bor, Option, Some, None, refl, sym, ap, ◌∙◌, subst, arith}
+use Rattle.std.proofs.Common.{◌≡◌, ℕ, ◌+◌, ◌<◌, Bool, true, false, cond, List, [], ◌∷◌, ◌++◌, length, drop, get_or, map, Bor, Option, Some, None, refl, sym, ap, ◌∙◌, subst, append_assoc, append-nil, take}
+use Rattle.std.proofs.lemmas.List.{map-append}
 use Rattle.std.specs.List.{flat_map}
 use Rattle.std.specs.Option.{option_map, is_some}
 use Rattle.std.specs.Str.{bytes_eq}
-use Rattle.std.proofs.lemmas.List.{drop_more}
+use Rattle.std.proofs.lemmas.List.{take_more}
+use Rattle.std.proofs.lemmas.Grind.{flat_map-append}
 use Rattle.js_tree.specs.declared.token.Token.{Token}
 use Rattle.js_tree.specs.declared.tree.Block.{Block}
 use Rattle.js_tree.specs.declared.tree.Expr.{Expr}
@@ -16,11 +18,12 @@ use Rattle.js_tree.specs.declared.tree.Stmt.TheVariants as statement
 use Rattle.js_tree.specs.declared.tree.Tail.{Tail}
 use Rattle.js_tree.specs.declared.tree.Tail.TheVariants as tail
 use Rattle.js_tree.proofs.SpellingLemmas.{Kind, kind, IsName, IsChain}
-use Rattle.js_scopes.specs.Names.{Scope, Numbering, Around, first_in, declarer}
-use Rattle.js_scopes.specs.Uses.{Used, Use, expr, function, stmt, own_pair, name_calls}
+use Rattle.js_scopes.specs.Names.{Scope, Numbering, Around, function_number}
+use Rattle.js_scopes.specs.Uses.{Used, Use, expr, function, stmt, own_pair, name_calls, declaration}
 use Rattle.js_scopes.proofs.UseLaws.{at-Name, at-Chain, at-Plain, at-Fun, at-Keyword}
-use Rattle.composer.specs.Found.{declarer_start}
-use Rattle.composer.specs.Walk.{tokens_of, scopes_of, call_uses, opening_of, both, IsCallOf}
+use Rattle.composer.specs.declared.found.FoundUse.{FoundUse}
+use Rattle.composer.specs.Found.{found_use}
+use Rattle.composer.specs.Walk.{tokens_of, scopes_of, call_uses, opening_of, both, IsCallOf, function_uses, body_uses, found_declaration}
 
 start : Token → ℕ
 start t = t.start
@@ -67,3 +70,45 @@ chain_calls x head tails name opening call is named opens calls n around =
 pub own_name_is : (f : Function) (word : Token) (name : Option Token) (params : Params) (body : Block Stmt) → f ≡ made.Keyword word name params body
     → tokens_of name ≡ map (λ p. p.1) (function f).own
 own_name_is f word name params body e = own_tokens word name ∙ sym (ap (λ (s : Used). map (λ (p : Token × Token). p.1) s.own) (ap function e ∙ at-Keyword word name params body))
+
+-- a declaration, as it is found
+pub declaration_found : (n : Numbering) (around : Around) (word : Token) (name : Option Token)
+    → found_declaration around (function_number n word.start) name ≡ map (found_use n) (map (declaration around) (own_pair word name))
+declaration_found n around word None = refl
+declaration_found n around word (Some t) = refl
+
+-- the uses of a function that is a statement, by its word, name and body
+pub function_uses_are : (n : Numbering) (around : Around) (f : Function) (word : Token) (name : Option Token) (params : Params) (body : Block Stmt)
+    → f ≡ made.Keyword word name params body
+    → function_uses n around f ≡ map (declaration around) (own_pair word name) ++ body_uses n around (function_number n word.start) body.body
+function_uses_are n around f word name params body e =
+    ap (λ (s : Used). map (declaration around) s.own ++ s.uses n around) (ap function e ∙ at-Keyword word name params body)
+
+-- what is pushed for a function that is a statement
+pub function_pushed : (n : Numbering) (around : Around) (f : Function) (word : Token) (name : Option Token) (params : Params) (body : Block Stmt)
+    → f ≡ made.Keyword word name params body
+    → (old : List FoundUse)
+    → (old ++ found_declaration around (function_number n word.start) name) ++ map (found_use n) (body_uses n around (function_number n word.start) body.body)
+        ≡ old ++ map (found_use n) (function_uses n around f)
+function_pushed n around f word name params body e old =
+    append_assoc old (found_declaration around (function_number n word.start) name) _
+    ∙ ap (λ us. old ++ (us ++ map (found_use n) (body_uses n around (function_number n word.start) body.body))) (declaration_found n around word name)
+    ∙ ap (λ us. old ++ us) (sym (map-append (found_use n) (map (declaration around) (own_pair word name)) (body_uses n around (function_number n word.start) body.body)))
+    ∙ ap (λ us. old ++ map (found_use n) us) (sym (function_uses_are n around f word name params body e))
+
+-- the scopes inside a function
+pub scopes_inside : (xs : List (Bor (List (Bor Token)))) (own : Bor (List (Bor Token))) (outer : List (Bor (List (Bor Token)))) (declares : Scope)
+    → xs ≡ own ∷ outer → map (λ (t : Bor Token). t.now) own.now ≡ declares → scopes_of xs ≡ declares ∷ scopes_of outer
+scopes_inside xs own outer declares e d = ap scopes_of e ∙ ap (λ (s : Scope). s ∷ scopes_of outer) d
+
+-- one statement more
+pub pushed_more : (n : Numbering) (f : Stmt → List Use) (old mid new : List FoundUse) (body : List Stmt) (i : ℕ) (d : Stmt) → i < length body
+    → mid ≡ old ++ map (found_use n) (flat_map f (take i body)) → new ≡ mid ++ map (found_use n) (f (get_or body i d))
+    → new ≡ old ++ map (found_use n) (flat_map f (take (i + 1) body))
+pushed_more n f old mid new body i d within before now =
+    now ∙ ap (λ us. us ++ map (found_use n) (f (get_or body i d))) before
+    ∙ append_assoc old (map (found_use n) (flat_map f (take i body))) (map (found_use n) (f (get_or body i d)))
+    ∙ ap (λ us. old ++ us) (sym (map-append (found_use n) (flat_map f (take i body)) (f (get_or body i d))))
+    ∙ ap (λ us. old ++ map (found_use n) us) (sym (
+        ap (flat_map f) (take_more body i d within) ∙ flat_map-append f (take i body) (get_or body i d ∷ [])
+        ∙ ap (λ us. flat_map f (take i body) ++ us) (append-nil (f (get_or body i d)))))

@@ -69,3 +69,12 @@ found_declaration around number (Some t) = found.Declared (declarer_start t.text
 abbrev pub body_uses : Numbering → Around → ℕ → List Stmt → List Use
 body_uses n around number body =
     flat_map (λ x. (used.stmt x).uses n (record { scopes = flat_map (λ y. (used.stmt y).declares) body ∷ around.scopes; holder = number })) body
+
+-- what is there
+abbrev pub one_of : Option ℕ → List ℕ
+one_of None = []
+one_of (Some k) = k ∷ []
+
+-- what stands in the body of a module
+abbrev pub module_uses : Numbering → List Stmt → List Use
+module_uses n body = flat_map (λ x. (used.stmt x).uses n (record { scopes = flat_map (λ y. (used.stmt y).declares) body ∷ []; holder = 0 })) body

@@ -13,7 +13,7 @@ ghost use Rattle.composer.specs.Walk.{Pushes};
 use crate::found::FoundUse;
 use jam_base::OutOfMemory;
 use js_scopes::FunctionInfo;
-use js_tree::{Block, Expr, Function, Stmt, Tail, Token};
+use js_tree::{Expr, Function, Stmt, Tail, Token};
 use std::alloc::Global;
 
 /// What stands around a node: the tokens that declare in each scope around it, innermost first, and the
@@ -133,11 +133,11 @@ fn called_name(value: &Expr) -> Option<(&Token, &Token)>
     }
 }
 
-fn both<'t>(name: Option<&'t Token>, open: Option<&'t Token>) -> Option<(&'t Token, &'t Token)>
-    ensures { option_map (λ p. (p.0.now, p.1.now)) result ≡ walk.both (option_map (λ t. t.now) name.entry) (option_map (λ t. t.now) open.entry) }
+fn both<'t>(name: Option<&'t Token>, mark: Option<&'t Token>) -> Option<(&'t Token, &'t Token)>
+    ensures { option_map (λ p. (p.0.now, p.1.now)) result ≡ walk.both (option_map (λ t. t.now) name.entry) (option_map (λ t. t.now) mark.entry) }
 {
-    match (name, open) {
-        (Some(name), Some(open)) => Some((name, open)),
+    match (name, mark) {
+        (Some(name), Some(mark)) => Some((name, mark)),
         _ => None,
     }
 }
@@ -187,10 +187,10 @@ fn push_call(
 ) -> Result<(), OutOfMemory>
     ensures { (n : Numbering) → OnOk result (Pushes n out.old.items out.new.items ((used.expr value.now).uses n (walk.around_of around.entry))) }
 {
-    if let Some((name, open)) = called_name(value) {
+    if let Some((name, mark)) = called_name(value) {
         out.push(FoundUse::Called {
             declarer: declarer_start(name.text.as_str(), around.scopes),
-            offset: open.start,
+            offset: mark.start,
             holder: around.holder,
         })?;
     }
@@ -218,7 +218,7 @@ fn push_function(
         } => {
             let number = function_number(functions, word.start);
             push_declaration(around, name.as_ref(), number, out)?;
-            push_body(alloc, functions, around, number, body, out)
+            push_body(alloc, functions, around, number, body.body.as_slice(), out)
         }
     }
 }
@@ -248,14 +248,14 @@ fn push_body(
     functions: &[FunctionInfo],
     around: Surroundings<'_>,
     number: u32,
-    body: &Block<Stmt>,
+    body: &[Stmt],
     out: &mut Vec<FoundUse>,
 ) -> Result<(), OutOfMemory>
     requires { length functions.now < 4294967295 }
     ensures { (n : Numbering) → n.functions ≡ functions.now
-        → OnOk result (Pushes n out.old.items out.new.items (walk.body_uses n (walk.around_of around.entry) number body.now.body)) }
+        → OnOk result (Pushes n out.old.items out.new.items (walk.body_uses n (walk.around_of around.entry) number body.now)) }
 {
-    let own = declared_in(alloc, body.body.as_slice())?;
+    let own = declared_in(alloc, body)?;
     let mut scopes = Vec::new(alloc);
     scopes.push(own.as_slice())?;
     scopes.extend_from_slice(around.scopes)?;
@@ -263,5 +263,5 @@ fn push_body(
         scopes: scopes.as_slice(),
         holder: number,
     };
-    push_uses(alloc, functions, inside, body.body.as_slice(), out)
+    push_uses(alloc, functions, inside, body, out)
 }
