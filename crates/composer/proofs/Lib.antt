@@ -6,4 +6,3 @@ pub mod PlainEdges
 pub mod OneList
 pub mod FoundEdges
 pub mod WalkLemmas
-pub mod SameDeclarers

@@ -1,5 +1,4 @@
 pub mod Application
-pub mod Declarers
 pub mod Edges
 pub mod Found
 pub mod Natives

@@ -2,6 +2,7 @@
 ghost use Rattle.std.specs.Prelude.{◌≡◌, ◌<◌, IfOk, length, map};
 ghost use Rattle.std.specs.Str.{IsAscii};
 ghost use Rattle.jam_base.specs.Place.{place_at};
+ghost use Rattle.js_tree.specs.Spells.{Spells};
 ghost use Rattle.js_scopes.specs.Scopes.{functions_of};
 ghost use Rattle.composer.specs.Plain.{plain_edges as edges_of};
 ghost use Rattle.report_text.specs.Graph.{graph_text_of};
@@ -101,6 +102,7 @@ pub(crate) fn printed_edges(
 ) -> Result<Text, OutOfMemory>
     requires ascii { IsAscii text.now }
     requires short { length text.now < 4294967295 }
+    requires spells { Spells text.now tree.now }
     ensures { IfOk result (λ printed. printed ≡ graph_text_of (map (graphs.shown_edge path.now text.now (functions_of tree.now)) (edges_of tree.now))) }
 {
     let functions = functions(alloc, tree)?;

@@ -6,4 +6,3 @@ pub mod Ascent
 pub mod Meanings
 pub mod Placed
 pub mod Counts
-pub mod Declarers
