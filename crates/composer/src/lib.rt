@@ -1,0 +1,11 @@
+//! The least solution: which functions come to which vertices of an application, and the call edges
+//! that follow.
+#![tactic(auto)]
+
+mod application;
+mod law;
+mod system;
+
+pub use application::{Link, ModuleVertex, Value};
+pub use law::{least_solution, one_edge_list, plain_module};
+pub use system::{Arrow, CallSite, Callable, System};

@@ -1,0 +1,135 @@
+-- The order of vertices and flows tells them apart, and an ascending list keeps its items.
+use Rattle.std.proofs.Common.{◌≡◌, ℕ, zero, suc, List, [], ◌∷◌, refl, sym, ap, subst, ◌∙◌, ◌⊎◌, inl, inr}
+use Rattle.std.specs.Prelude.{Contains}
+use Rattle.std.specs.declared.cmp.Ordering.{Ordering}
+use Rattle.std.specs.declared.cmp.Ordering.TheVariants.{Less, Equal, Greater}
+use Rattle.std.specs.Ordering.{nat_cmp, ordering_then}
+use Rattle.std.specs.Cmp.Lexicographic.{slice_cmp}
+use Rattle.std.proofs.lemmas.Map.Lookups.{exact_bytes}
+use Rattle.js_scopes.proofs.Members.{here, there, cons_cases, none}
+use Rattle.flow_rules.specs.declared.module.Flow.{Flow}
+use Rattle.flow_rules.specs.declared.vertex.Vertex.{Vertex}
+use Rattle.flow_rules.specs.declared.vertex.Vertex.TheVariants.{Prop, Elem, Global, Exports, Param, Rest, Ret, Lit, Callee, Arg, More, Recv, Res, Req, Var, Exp}
+use Rattle.flow_rules.specs.Ascending.{with_item, ascending}
+use Rattle.flow_rules.specs.Vertices.{vertex_key, vertex_order, flow_order}
+
+-- the first field of a key, and what stands behind it
+abbrev first : List ℕ → ℕ
+first [] = 0
+first (x ∷ xs) = x
+
+abbrev behind : List ℕ → List ℕ
+behind [] = []
+behind (x ∷ xs) = xs
+
+-- the vertex of the kind with the fields
+abbrev of_kind : ℕ → List ℕ → Vertex
+of_kind zero xs = Prop xs
+of_kind (suc zero) xs = Elem
+of_kind (suc (suc zero)) xs = Global xs
+of_kind (suc (suc (suc zero))) xs = Exports
+of_kind (suc (suc (suc (suc zero)))) xs = Param (first xs) (first (behind xs))
+of_kind (suc (suc (suc (suc (suc zero))))) xs = Rest (first xs)
+of_kind (suc (suc (suc (suc (suc (suc zero)))))) xs = Ret (first xs)
+of_kind (suc (suc (suc (suc (suc (suc (suc zero))))))) xs = Lit (first xs)
+of_kind (suc (suc (suc (suc (suc (suc (suc (suc zero)))))))) xs = Callee (first xs) (first (behind xs))
+of_kind (suc (suc (suc (suc (suc (suc (suc (suc (suc zero))))))))) xs = Arg (first xs) (first (behind xs)) (first (behind (behind xs)))
+of_kind (suc (suc (suc (suc (suc (suc (suc (suc (suc (suc zero)))))))))) xs = More (first xs) (first (behind xs))
+of_kind (suc (suc (suc (suc (suc (suc (suc (suc (suc (suc (suc zero))))))))))) xs = Recv (first xs) (first (behind xs))
+of_kind (suc (suc (suc (suc (suc (suc (suc (suc (suc (suc (suc (suc zero)))))))))))) xs = Res (first xs) (first (behind xs))
+of_kind (suc (suc (suc (suc (suc (suc (suc (suc (suc (suc (suc (suc (suc zero))))))))))))) xs = Req (first xs)
+of_kind (suc (suc (suc (suc (suc (suc (suc (suc (suc (suc (suc (suc (suc (suc zero)))))))))))))) xs = Var (first xs)
+of_kind _ xs = Exp (first xs)
+
+-- the vertex with the key
+abbrev of_key : List ℕ → Vertex
+of_key [] = Elem
+of_key (k ∷ xs) = of_kind k xs
+
+key_back : (v : Vertex) → of_key (vertex_key v) ≡ v
+key_back (Prop n) = refl
+key_back Elem = refl
+key_back (Global n) = refl
+key_back Exports = refl
+key_back (Param f i) = refl
+key_back (Rest f) = refl
+key_back (Ret f) = refl
+key_back (Lit f) = refl
+key_back (Callee o p) = refl
+key_back (Arg o p i) = refl
+key_back (More o p) = refl
+key_back (Recv o p) = refl
+key_back (Res o p) = refl
+key_back (Req o) = refl
+key_back (Var n) = refl
+key_back (Exp n) = refl
+
+-- two vertices with one key are one
+pub one_vertex : (u v : Vertex) → vertex_key u ≡ vertex_key v → u ≡ v
+one_vertex u v e = sym (key_back u) ∙ ap of_key e ∙ key_back v
+
+both_equal : (a b : Ordering) → ordering_then a b ≡ Equal → (a ≡ Equal) × (b ≡ Equal)
+both_equal Equal b e = (refl, e)
+both_equal Less b e = absurd (cc)
+both_equal Greater b e = absurd (cc)
+
+-- two flows that the order doesn't tell apart are one
+pub one_flow : (f g : Flow) → flow_order f g ≡ Equal → f ≡ g
+one_flow f g e =
+    let b = both_equal (vertex_order f.from g.from) (vertex_order f.to g.to) e in
+    let from = one_vertex f.from g.from (exact_bytes (vertex_key f.from) (vertex_key g.from) b.0) in
+    let to = one_vertex f.to g.to (exact_bytes (vertex_key f.to) (vertex_key g.to) b.1) in
+    λ i. record { from = from i; to = to i }
+
+module _ {X : Type 0} (order : X → X → Ordering) where
+  pub from_with_item : (x : X) (ys : List X) (y : X) → Contains (with_item order x ys) y → (x ≡ y) ⊎ Contains ys y
+  from_with_item x [] y h = cons_cases x [] y h
+  from_with_item x (z ∷ zs) y h = by_order (λ g. from_with_item x zs y g) (order x z) h
+    where
+      by_order : (Contains (with_item order x zs) y → (x ≡ y) ⊎ Contains zs y) → (o : Ordering) → Contains (elim o [ Less ↦ x ∷ z ∷ zs | Equal ↦ z ∷ zs | Greater ↦ z ∷ with_item order x zs ]) y → (x ≡ y) ⊎ Contains (z ∷ zs) y
+      by_order later Less h = cons_cases x (z ∷ zs) y h
+      by_order later Equal h = inr h
+      by_order later Greater h = elim (cons_cases z (with_item order x zs) y h) [
+        | inl e ↦ inr (subst (Contains (z ∷ zs)) e (here z zs))
+        | inr g ↦ elim (later g) [ inl e ↦ inl e | inr k ↦ inr (there z zs y k) ]
+      ]
+
+  -- what is in an ascending list is in the list
+  pub from_ascending : (xs : List X) (y : X) → Contains (ascending order xs) y → Contains xs y
+  unfolding ascending
+  from_ascending [] y h = h
+  from_ascending (x ∷ xs) y h = elim (from_with_item x (ascending order xs) y h) [
+    | inl e ↦ subst (Contains (x ∷ xs)) e (here x xs)
+    | inr g ↦ there x xs y (from_ascending xs y g)
+  ]
+
+  module _ (exact : (x y : X) → order x y ≡ Equal → x ≡ y) where
+    item_in : (x : X) (ys : List X) → Contains (with_item order x ys) x
+    item_in x [] = here x []
+    item_in x (z ∷ zs) = by_order (item_in x zs) (order x z) refl
+      where
+        by_order : Contains (with_item order x zs) x → (o : Ordering) → order x z ≡ o → Contains (elim o [ Less ↦ x ∷ z ∷ zs | Equal ↦ z ∷ zs | Greater ↦ z ∷ with_item order x zs ]) x
+        by_order later Less e = here x (z ∷ zs)
+        by_order later Equal e = subst (Contains (z ∷ zs)) (sym (exact x z e)) (here z zs)
+        by_order later Greater e = there z (with_item order x zs) x later
+
+    others_in : (x : X) (ys : List X) (y : X) → Contains ys y → Contains (with_item order x ys) y
+    others_in x [] y h = absurd (none y h)
+    others_in x (z ∷ zs) y h = by_order (λ g. others_in x zs y g) (order x z)
+      where
+        by_order : (Contains zs y → Contains (with_item order x zs) y) → (o : Ordering) → Contains (elim o [ Less ↦ x ∷ z ∷ zs | Equal ↦ z ∷ zs | Greater ↦ z ∷ with_item order x zs ]) y
+        by_order later Less = there x (z ∷ zs) y h
+        by_order later Equal = h
+        by_order later Greater = elim (cons_cases z zs y h) [
+          | inl e ↦ subst (Contains (z ∷ with_item order x zs)) e (here z (with_item order x zs))
+          | inr g ↦ there z (with_item order x zs) y (later g)
+        ]
+
+    -- and the other way round
+    pub into_ascending : (xs : List X) (y : X) → Contains xs y → Contains (ascending order xs) y
+    unfolding ascending
+    into_ascending [] y h = h
+    into_ascending (x ∷ xs) y h = elim (cons_cases x xs y h) [
+      | inl e ↦ subst (Contains (with_item order x (ascending order xs))) e (item_in x (ascending order xs))
+      | inr g ↦ others_in x (ascending order xs) y (into_ascending xs y g)
+    ]

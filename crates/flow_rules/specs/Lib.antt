@@ -1,0 +1,4 @@
+pub mod Ascending
+pub mod Constraints
+pub mod Flows
+pub mod Vertices

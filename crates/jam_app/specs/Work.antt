@@ -1,0 +1,33 @@
+-- What a step of the work that reads the folder answers.
+use Rattle.std.specs.Prelude.{◌≡◌, ℕ, List, Result, Ok, Err, Option, Some, IfSome}
+use Rattle.jam_base.specs.Causes.{Rose}
+use Rattle.jam_base.specs.Files.{Files}
+use Rattle.jam_app.specs.declared.stop.Stop.{Stop}
+use Rattle.jam_app.specs.declared.stop.Stop.TheVariants.{ReadFault, OutOfMemory, Refused}
+use Rattle.jam_app.specs.declared.refusal.Refusal.{Refusal}
+use Rattle.jam_app.specs.declared.refusal.Refusal.TheVariants as refusal
+use Rattle.jam_app.specs.declared.graph.Bad.{Bad}
+use Rattle.jam_app.specs.declared.graph.Bad.TheVariants as bad
+use Rattle.jam_app.specs.Graphs.{IsBad}
+use Rattle.jam_app.specs.Refusals.{IsRefusedAt}
+
+-- a stop has its cause: the count rose, or the files give the refusal
+abbrev pub HasStopCause : (Files → Refusal → Type 0) → Option Files → ℕ → ℕ → Stop → Type 0
+HasStopCause refused files before now ReadFault = Rose before now
+HasStopCause refused files before now OutOfMemory = Unit {0}
+HasStopCause refused files before now (Refused refusal place) = IfSome files (λ m. refused m refusal)
+
+-- over the files, where they are told, a step finds what is owed, or stops with its cause
+abbrev pub Gives : {X : Type 0} → (Files → X → Type 0) → (Files → Refusal → Type 0) → Option Files → ℕ → ℕ → Result X Stop → Type 0
+Gives owed refused files before now (Ok x) = IfSome files (λ m. owed m x)
+Gives owed refused files before now (Err stop) = HasStopCause refused files before now stop
+
+-- why a file has no tree: none spells its text, which reading left at the offset, or memory ran out
+abbrev pub HasBadCause : List ℕ → Bad → Type 0
+HasBadCause bytes (bad.At place) = IsBad bytes × IsRefusedAt bytes place.offset
+HasBadCause bytes bad.OutOfMemory = Unit {0}
+
+-- what a module without a tree means for the run
+abbrev pub stop_of : List ℕ → Bad → Stop
+stop_of path (bad.At place) = Refused (refusal.NotInProfile path place.offset) (Some place)
+stop_of path bad.OutOfMemory = OutOfMemory

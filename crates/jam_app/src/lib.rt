@@ -1,0 +1,20 @@
+//! The top call of the tool: all that the program does, over a folder, a keeper and two sinks.
+#![tactic(auto)]
+
+mod graph;
+mod message;
+mod refusal;
+mod request;
+mod source;
+mod status;
+mod stop;
+mod top;
+mod write;
+
+pub use refusal::Refusal;
+pub use status::Status;
+pub(crate) use stop::Stop;
+pub use top::run;
+
+#[cfg(test)]
+mod tests;

@@ -1,0 +1,176 @@
+ghost use Rattle.std.specs.Prelude.{◌≡◌, ◌<◌};
+
+use crate::{Status, run};
+use jam_base::{List, MemFolder, MemKeeper, MemSink, ModulePath, NoGate, Steps, Text};
+use std::alloc::Global;
+use std::marker::{Brand, Sync};
+use std::process::Abort;
+use std::sync::ledger::{Blank, Ledger};
+use std::test::Fail;
+use std::thread::Threads;
+
+// What a run is over, and what it left.
+#[derive(Drop)]
+struct Bench {
+    folder: MemFolder,
+    out: MemSink,
+    err: MemSink,
+}
+
+// A folder with this text at this path, whose call with this number fails, and an output with this room.
+fn set_up(alloc: Global, path: &str, text: &[u8], failing: u64, room: u64) -> Result<Bench, Fail> {
+    let mut folder = MemFolder::new(alloc);
+    let path = ModulePath::read(alloc, path)?.ok_or("path")?;
+    folder.add(path, text.to_vec(alloc)?)?;
+    folder.fail_at(List::of(vec![in alloc; failing]?));
+    let mut out = MemSink::new(alloc);
+    out.fail_after(room);
+    Ok(Bench {
+        folder,
+        out,
+        err: MemSink::new(alloc),
+    })
+}
+
+fn ran<R: Threads + Sync, L: Ledger>(
+    rt: &R,
+    alloc: Global,
+    bench: &mut Bench,
+    words: &[Text],
+    blank: Blank,
+) -> Status
+    requires name { blank.name ≡ L.name }
+    requires parts { blank.parts ≡ L.parts }
+    requires some { 0 < L.parts }
+{
+    let mut keeper = MemKeeper::new(alloc);
+    let mut steps = Steps::<L>::new(blank);
+    run(
+        rt,
+        alloc,
+        words,
+        &mut bench.folder,
+        &mut keeper,
+        &mut bench.out,
+        &mut bench.err,
+        &NoGate,
+        &mut steps,
+    )
+}
+
+// The words of a line, which stand between spaces.
+fn words_of(alloc: Global, line: &str) -> Result<Vec<Text>, Fail> {
+    let mut words = Vec::new(alloc);
+    for word in line.split(' ') {
+        words.push(Text::of(alloc, word)?)?;
+    }
+    Ok(words)
+}
+
+// Compares what a run left: its status and the line on err, with nothing on the output.
+fn compare(rt: &impl Abort, bench: &Bench, status: &Status, line: &str, number: u8, err: &str) {
+    assert_eq!(rt; status.number(), number, "{line}");
+    assert_eq!(rt; bench.out.bytes(), b"".as_slice());
+    assert_eq!(rt; bench.err.bytes(), err.as_bytes());
+}
+
+#[test]
+fn a_text_is_taken_or_refused_at_its_place(rt: HostRuntime) -> Result<(), Fail> {
+    let alloc = rt.alloc();
+    for (text, number, err) in [
+        (b"".as_slice(), 0, ""),
+        (b" \t\r\n".as_slice(), 0, ""),
+        (
+            b"f()".as_slice(),
+            2,
+            "jam: index.js:1:4: not in the profile\n",
+        ),
+        (
+            b"f();\r\n\n g(; ".as_slice(),
+            2,
+            "jam: index.js:3:4: not in the profile\n",
+        ),
+        (
+            b"f(); \xc3\xa9".as_slice(),
+            2,
+            "jam: index.js:1:1: not in the profile\n",
+        ),
+        (
+            b"\xff".as_slice(),
+            2,
+            "jam: index.js:1:1: not in the profile\n",
+        ),
+    ] {
+        let mut bench = set_up(alloc, "index.js", text, 0, 99)?;
+        let line = "graph ./a/../index.js";
+        let words = words_of(alloc, line)?;
+        let status = ran::<HostRuntime, Brand>(
+            &rt,
+            alloc,
+            &mut bench,
+            words.as_slice(),
+            Blank::new(1),
+        );
+        compare(&rt, &bench, &status, line, number, err);
+    }
+    Ok(())
+}
+
+#[test]
+fn an_entry_is_a_file_that_can_be_code(rt: HostRuntime) -> Result<(), Fail> {
+    let alloc = rt.alloc();
+    let none = "jam: no entry\n";
+    let failed = "jam: read failed\n";
+    for (path, line, failing, number, err) in [
+        ("index.js", "graph none.js", 0, 2, none),
+        ("index.js", "graph ../index.js", 0, 2, none),
+        ("index.js", "graph index.js/", 0, 2, none),
+        ("index.js", "graph index.js/.", 0, 2, none),
+        ("index.js", "graph .", 0, 2, none),
+        ("a", "graph a/b/..", 0, 2, none),
+        ("data.json", "graph data.json", 0, 2, none),
+        ("addon.node", "graph addon.node", 0, 2, none),
+        ("index.js", "graph index.js", 1, 3, failed),
+        ("index.js", "graph index.js", 2, 3, failed),
+        ("index.js", "graph index.js", 3, 0, ""),
+    ] {
+        let mut bench = set_up(alloc, path, b"", failing, 99)?;
+        let words = words_of(alloc, line)?;
+        let status = ran::<HostRuntime, Brand>(
+            &rt,
+            alloc,
+            &mut bench,
+            words.as_slice(),
+            Blank::new(1),
+        );
+        compare(&rt, &bench, &status, line, number, err);
+    }
+    Ok(())
+}
+
+#[test]
+fn words_are_canonical_or_a_usage(rt: HostRuntime) -> Result<(), Fail> {
+    let alloc = rt.alloc();
+    let refused = "jam: a\\u005cb.js:1:1: not in the profile\n";
+    for (line, number, err) in [
+        ("graph a\\b.js", 2, refused),
+        ("graph", 6, ""),
+        ("graph -x", 6, ""),
+        ("graph ", 6, ""),
+        ("audit index.js", 6, ""),
+        ("graph index.js more", 6, ""),
+        ("--help", 6, ""),
+    ] {
+        let mut bench = set_up(alloc, "a\\b.js", b"?", 0, 0)?;
+        let words = words_of(alloc, line)?;
+        let status = ran::<HostRuntime, Brand>(
+            &rt,
+            alloc,
+            &mut bench,
+            words.as_slice(),
+            Blank::new(1),
+        );
+        compare(&rt, &bench, &status, line, number, err);
+    }
+    Ok(())
+}

@@ -1,0 +1,88 @@
+//! The program: the real folder, the real streams, and the status as a number.
+#![tactic(auto)]
+
+mod disk;
+mod sink;
+
+ghost use Rattle.std.specs.Prelude.{◌≡◌, ◌<◌};
+
+use disk::DiskFolder;
+use jam_app::{Status, run};
+use jam_base::{MemKeeper, NoGate, Sink, Steps, Text};
+use sink::StdSink;
+use std::alloc::Global;
+use std::env;
+use std::io::{Stderr, Stdout};
+use std::marker::{Brand, Sync};
+use std::process::ExitCode;
+use std::rt::{Env, Files};
+use std::sync::ledger::{Blank, Ledger};
+use std::thread::Threads;
+
+// The words of the command line, without the program's name. Words that aren't UTF-8 are not canonical.
+fn words_of(rt: &(impl Env + AllocGlobal)) -> Result<Vec<Text>, Status> {
+    let alloc = rt.alloc();
+    let Ok(args) = env::args(rt) else {
+        return Err(Status::Usage);
+    };
+    let mut words = Vec::new(alloc);
+    for word in args.skip(1) {
+        let Ok(word) = Text::of(alloc, word.as_str()) else {
+            return Err(Status::NoMemory);
+        };
+        if words.push(word).is_err() {
+            return Err(Status::NoMemory);
+        }
+    }
+    Ok(words)
+}
+
+// Runs over the current folder, with a keeper that holds nothing.
+fn start<R: Threads + Sync + Files, O: Sink, E: Sink, L: Ledger>(
+    rt: &R,
+    alloc: Global,
+    words: &[Text],
+    out: &mut O,
+    err: &mut E,
+    blank: Blank,
+) -> Status
+    requires name { blank.name ≡ L.name }
+    requires parts { blank.parts ≡ L.parts }
+    requires some { 0 < L.parts }
+{
+    let mut folder = DiskFolder::new(rt);
+    let mut keeper = MemKeeper::new(alloc);
+    let mut steps = Steps::<L>::new(blank);
+    run(
+        rt,
+        alloc,
+        words,
+        &mut folder,
+        &mut keeper,
+        out,
+        err,
+        &NoGate,
+        &mut steps,
+    )
+}
+
+fn main(rt: HostRuntime) -> ExitCode {
+    let alloc = rt.alloc();
+    let mut out = StdSink::new(rt.stdout());
+    let mut err = StdSink::new(rt.stderr());
+    let status = match words_of(&rt) {
+        Ok(words) => start::<HostRuntime, StdSink<Stdout>, StdSink<Stderr>, Brand>(
+            &rt,
+            alloc,
+            words.as_slice(),
+            &mut out,
+            &mut err,
+            Blank::new(1),
+        ),
+        Err(status) => status,
+    };
+    ExitCode::from(status.number())
+}
+
+#[cfg(test)]
+mod tests;

@@ -1,0 +1,8 @@
+function greet() {
+  format();
+}
+
+function format() {
+}
+
+greet();
