@@ -27,12 +27,12 @@ module _ (P : Function → Type 0) (Q : Stmt → Type 0) (steps : Steps P Q) whe
   pub each_stmt : (x : Stmt) → Q x
   each_stmt x =
       ind-Stmt P Q
-          (λ x' y. elim y as (λ z. map-Function _ _ Function Stmt (λ e. e.0) (λ e. e.0) z ≡ x' → P (roll-Function x')) [
-            Function-F.Keyword word name params body ↦ λ e.
-                subst (λ l. P (roll-Function l)) e (subst P (sym (rolls-Keyword word name params _)) (steps.keyword word name params _ (firsts_have body.body)))
-          ])
-          (λ x' y. elim y as (λ z. map-Stmt _ _ Function Stmt (λ e. e.0) (λ e. e.0) z ≡ x' → Q (roll-Stmt x')) [
-            Stmt-F.Plain value semi ↦ λ e. subst (λ l. Q (roll-Stmt l)) e (subst Q (sym (rolls-Plain value semi)) (steps.plain value semi))
-          | Stmt-F.Fun f ↦ λ e. subst (λ l. Q (roll-Stmt l)) e (subst Q (sym (rolls-Fun f.0)) (steps.fun f.0 f.1))
-          ])
-          x
+      (λ x' y. elim y as (λ z. map-Function _ _ Function Stmt (λ e. e.0) (λ e. e.0) z ≡ x' → P (roll-Function x')) [
+        | Function-F.Keyword word name params body ↦ λ e.
+            subst (λ l. P (roll-Function l)) e (subst P (sym (rolls-Keyword word name params _)) (steps.keyword word name params _ (firsts_have body.body)))
+      ])
+      (λ x' y. elim y as (λ z. map-Stmt _ _ Function Stmt (λ e. e.0) (λ e. e.0) z ≡ x' → Q (roll-Stmt x')) [
+        | Stmt-F.Plain value semi ↦ λ e. subst (λ l. Q (roll-Stmt l)) e (subst Q (sym (rolls-Plain value semi)) (steps.plain value semi))
+        | Stmt-F.Fun f ↦ λ e. subst (λ l. Q (roll-Stmt l)) e (subst Q (sym (rolls-Fun f.0)) (steps.fun f.0 f.1))
+      ])
+      x

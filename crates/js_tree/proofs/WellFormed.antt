@@ -39,6 +39,7 @@ head_is head tails rest r single c fit = by_kind (kind head)
     of_name t e [] s f es = no s
     of_name t e (tail.Call a ∷ []) s f es = record { name = t; arguments = a; is = (λ i. expression.Chain (e i) (es i)); fit = f.1.1.1 }
     of_name t e (tail.Call a ∷ x ∷ xs) s f es = no s
+
     by_kind : Kind head → IsCall (expression.Chain head tails) rest
     by_kind (IsName t e) = of_name t e tails single (subst (λ (s : Seen). AreFit (s.line (tails_line tails rest))) (ap expr e ∙ at-Name t) fit) refl
     by_kind (IsChain h ts e) = no (subst (λ (s : Seen). nat_le 4 s.rank ≡ true) (ap expr e ∙ at-Chain h ts) r)
@@ -49,6 +50,7 @@ is_call value rest c fit = by_kind (kind value)
   where
     of_chain : (head : Expr) (tails : List Tail) → value ≡ expression.Chain head tails → IsCall (expression.Chain head tails) rest → IsCall value rest
     of_chain head tails e w = subst (λ v. IsCall v rest) (sym e) w
+
     by_kind : Kind value → IsCall value rest
     by_kind (IsName t e) = no (subst (λ (s : Seen). s.is_call ≡ true) (ap expr e ∙ at-Name t) c)
     by_kind (IsChain head tails e) =
