@@ -44,12 +44,12 @@ cut_none text rest gap trivia e only gap' c n s =
     let f = only c n here in
     cc
 
-record Ends (text : List ℕ) (gap n : ℕ) : Type 0 where
+pub record Ends (text : List ℕ) (gap n : ℕ) : Type 0 where
   pub some : 0 < n
   pub within : gap + n ≤ length text
   pub last : get_or text (gap + n - 1) 0 < 128
 
-cut_ends : (text : List ℕ) (gap : ℕ) (c : TokenClass) (n : ℕ) → IsCut text gap c n → Ends text gap n
+pub cut_ends : (text : List ℕ) (gap : ℕ) (c : TokenClass) (n : ℕ) → IsCut text gap c n → Ends text gap n
 cut_ends text gap c n h =
     let a = form_ascii c (take n (drop gap text)) h.stands.form in
     let len = length-take-le n (drop gap text) h.stands.longest.within in

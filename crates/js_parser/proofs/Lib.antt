@@ -1,5 +1,6 @@
 pub mod LexLemmas
 pub mod CutLemmas
+pub mod BoundaryLemmas
 pub mod TokenLemmas
 pub mod SeesLemmas
 pub mod ExitLemmas

@@ -31,21 +31,21 @@ to_fit (Must b ∷ ps) p r = (r.0, to_fit ps p r.1)
 to_fit (Ahead c ∷ ps) p r = (r.0, to_fit ps p r.1)
 
 -- statements that were read to the end are a tree that spells the text
-pub spelled : (text : List ℕ) (start m : Place) (body : List Stmt) → start ≡ start_of text → length text ≤ limit → Read start (stmts body) m → stmts_height body ≤ 256
+pub spelled : (text : List ℕ) (start m : Place) (body : List Stmt) (room : ℕ) → start ≡ start_of text → length text ≤ limit → Read start (stmts body) m → stmts_height body ≤ room → room ≤ 256
     → IsTrivia m.left → Spells text (record { body = body })
-spelled text start m body e fits found deep end =
+spelled text start m body room e fits found deep most end =
     let r : Reads (start_of text) (stmts body []) = subst (λ (p : Place). Reads p (stmts body [])) e (found [] end) in
-    record { fits = fits; well = record { fit = to_fit (stmts body []) (start_of text) r; depth = deep }; lexes = to_lexes (stmts body []) (start_of text) r }
+    record { fits = fits; well = record { fit = to_fit (stmts body []) (start_of text) r; depth = omega arith }; lexes = to_lexes (stmts body []) (start_of text) r }
 
 -- whatever tree spells the text, its statements are what was read
-pub only_body : (text : List ℕ) (start m : Place) (tree : Tree) (result : Result (Tall (List Stmt)) ParseFault) → start ≡ start_of text → Spells text tree
-    → OnlyRead (λ (x : Tall (List Stmt)). stmts x.node) (StmtsAt 256) (λ x. Closes) start m result
+pub only_body : (text : List ℕ) (start m : Place) (tree : Tree) (room : ℕ) (result : Result (Tall (List Stmt)) ParseFault) → start ≡ start_of text → 256 ≤ room → Spells text tree
+    → OnlyRead (λ (x : Tall (List Stmt)). stmts x.node) (StmtsAt room) (λ x. Closes) start m result
     → Gives result (record { node = tree.body; height = stmts_height tree.body }) (IsTrivia m.left)
-only_body text start m tree result e s only =
+only_body text start m tree room result e least s only =
     let l = s.lexes in
     let r = to_reads (stmts tree.body []) (start_of text) l.0 l.1 l.2 s.well.fit in
     only (record { node = tree.body; height = stmts_height tree.body }) [] (subst (λ (p : Place). Reads p (stmts tree.body [])) (sym e) r)
-    (record { height = refl; fits = s.well.depth }) tt
+    (record { height = refl; fits = omega (arith, s.well.depth) }) tt
 
 -- a text within the limit is never too large
 pub not_too_large : (text : List ℕ) (result : Result Tree ParseFault) → length text ≤ limit → IfErr result (Refuses (start_of text)) → TellsTooLarge text result

@@ -1,6 +1,7 @@
 -- What `parse` answers.
 use Rattle.std.specs.Prelude.{◌≡◌, ℕ, ◌<◌, List, length, Result, Err}
 use Rattle.js_tree.specs.declared.tree.Tree.{Tree}
+use Rattle.std.specs.Str.{IsCharBoundary}
 use Rattle.js_tree.specs.Lexing.{start_of}
 use Rattle.js_tree.specs.Spells.{Spells, limit}
 use Rattle.js_parser.specs.declared.fault.ParseFault.{ParseFault}
@@ -24,3 +25,7 @@ IsPlaced text result = (at : ℕ) → result ≡ Err (fault.NotInProfile at) →
 -- NotInProfile comes only where no tree spells the text
 abbrev pub IsUnspelled : List ℕ → Result Tree ParseFault → Type 0
 IsUnspelled text result = (at : ℕ) → result ≡ Err (fault.NotInProfile at) → (tree : Tree) → Spells text tree → ⊥
+
+-- NotInProfile comes only with an offset at which a character begins, or with the length of the text
+abbrev pub IsAtCharacter : List ℕ → Result Tree ParseFault → Type 0
+IsAtCharacter text result = (at : ℕ) → result ≡ Err (fault.NotInProfile at) → IsCharBoundary text at

@@ -1,8 +1,6 @@
 //! Why a text isn't read.
 use jam_base::OutOfMemory;
 use std::alloc::AllocError;
-use std::error::Error;
-use std::fmt;
 
 /// Why a text isn't read.
 #[derive(Clone, Copy, Debug, PartialEq, Eq)]
@@ -20,18 +18,6 @@ pub enum ParseFault {
     /// A growth found no memory.
     OutOfMemory,
 }
-
-impl fmt::Display for ParseFault {
-    fn fmt<W: fmt::Write>(&self, f: &mut fmt::Formatter<W>) -> fmt::Result {
-        match self {
-            ParseFault::TooLarge { length } => write!(f, "too large: {length} bytes"),
-            ParseFault::NotInProfile { at } => write!(f, "not in the profile at offset {at}"),
-            ParseFault::OutOfMemory => write!(f, "out of memory"),
-        }
-    }
-}
-
-impl Error for ParseFault {}
 
 impl From<AllocError> for ParseFault {
     ghost use Rattle.std.specs.Prelude.{◌≡◌};

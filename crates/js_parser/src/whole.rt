@@ -3,7 +3,7 @@ ghost use Rattle.std.specs.Prelude.{◌≡◌, ◌+◌, ◌≤◌, length, IfOk,
 ghost use Rattle.js_tree.specs.declared.tree.Tree.{Tree};
 ghost use Rattle.js_tree.specs.Lexing.{start_of};
 ghost use Rattle.js_tree.specs.Spells.{Spells, limit};
-ghost use Rattle.js_parser.specs.Answers.{IsTree, TellsTooLarge, IsPlaced, IsUnspelled};
+ghost use Rattle.js_parser.specs.Answers.{IsTree, TellsTooLarge, IsPlaced, IsAtCharacter, IsUnspelled};
 ghost use Rattle.js_parser.specs.Reading.{Refuses};
 
 use crate::fault::ParseFault;
@@ -50,6 +50,7 @@ pub fn parse<L: Ledger>(alloc: Global, text: &str, steps: &mut Steps<L>) -> Resu
     ensures only { (tree : Tree) → Spells text.now tree → IsTree result tree }
     ensures too_large { TellsTooLarge text.now result }
     ensures placed { IsPlaced text.now result }
+    ensures at_character { IsAtCharacter text.now result }
     ensures unspelled { IsUnspelled text.now result }
     ensures cost { steps.new ≡ steps.old + (if nat_le (length text.now) limit then length text.now else 0) }
 {

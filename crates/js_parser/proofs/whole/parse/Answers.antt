@@ -1,3 +1,4 @@
+use Rattle.js_parser.proofs.BoundaryLemmas.{at_character}
 use Rattle.js_parser.proofs.WholeLemmas.{not_too_large, placed, unspelled}
 use Rattle.js_parser.proofs.whole.parse.Goals as goal
 
@@ -9,3 +10,6 @@ returns-clause-placed g c = placed _ _ c.tree.ensures.placed
 
 pub returns-clause-unspelled : goal.returns-clause-unspelled
 returns-clause-unspelled g c = unspelled _ _ c.tree.ensures.only
+
+pub returns-clause-at_character : goal.returns-clause-at_character
+returns-clause-at_character g c = at_character _ _ c.utf8.text (placed _ _ c.tree.ensures.placed)
