@@ -1,0 +1,3 @@
+pub mod Prepending
+pub mod Owners
+pub mod Texts
