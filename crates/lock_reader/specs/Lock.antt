@@ -1,5 +1,8 @@
 -- What a lockfile says (npm manual, "package-lock.json", lockfileVersion 2 and 3).
-use Rattle.std.specs.Prelude.{ℕ, ◌||◌, ◌==◌, List, [], ◌∷◌, Option, Some, None, Result, Ok, Err, codes, is_some, if◌then◌else◌}
+use Rattle.std.specs.Prelude.{ℕ, ◌||◌, ◌==◌, List, [], ◌∷◌, Option, Some, None, Result, Ok, Err, codes, is_some, map, if◌then◌else◌}
+use Rattle.std.specs.Cmp.Lexicographic.{slice_cmp}
+use Rattle.std.specs.List.Sorted.{IsStrictlySortedBy}
+use Rattle.std.specs.Ordering.{nat_cmp}
 use Rattle.std.specs.Option.{option_and_then, option_map, unwrap_or}
 use Rattle.serde_json.specs.Data.{Data, Members, no_members, member}
 use Rattle.serde_json.specs.Find.{as_number, as_object, as_str, as_u64, get}
@@ -78,3 +81,7 @@ lock_in_json (Some d) = lock_in d
 -- the entries of a lockfile, or the one fault of its bytes
 abbrev pub lock_of : List ℕ → Result (List LockEntry) LockFault
 lock_of bytes = lock_in_json (json_of bytes)
+
+-- the locations ascend by their bytes, so each stands once
+unfoldable pub IsAscending : List LockEntry → Type 0
+IsAscending entries = IsStrictlySortedBy (slice_cmp nat_cmp) (map (λ e. e.location) entries)

@@ -3,7 +3,7 @@ ghost use Rattle.std.specs.Prelude.{◌≡◌, ◌⊎◌, ℕ, List, Ok, Err, So
 ghost use Rattle.std.specs.Option.{option_map, unwrap_or};
 ghost use Rattle.serde_json.specs.Find.{get};
 ghost use Rattle.serde_json.specs.View.{members_view, view};
-ghost use Rattle.lock_reader.specs.Lock.{entries_of, entry_of, name_of, optional_text, texts_of as texts_in};
+ghost use Rattle.lock_reader.specs.Lock.{IsAscending, entries_of, entry_of, name_of, optional_text, texts_of as texts_in};
 ghost use Rattle.lock_reader.specs.declared.fault.LockFault.TheVariants as fault;
 
 use crate::fault::{LockFault, wrong_shape};
@@ -90,6 +90,7 @@ pub(crate) fn read_entries(
     packages: &Map<String, Value>,
 ) -> Result<Vec<LockEntry>, LockFault>
     ensures entries { IfOk result (λ v. entries_of (members_view packages.now.entries) ≡ Ok v.items) }
+    ensures ascending { IfOk result (λ v. IsAscending v.items) }
     ensures fault { IfErr result (λ f. (f ≡ fault.OutOfMemory) ⊎ (entries_of (members_view packages.now.entries) ≡ Err f)) }
 {
     let mut entries = Vec::new(alloc);

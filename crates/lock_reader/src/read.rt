@@ -2,7 +2,7 @@
 ghost use Rattle.std.specs.Prelude.{◌≡◌, ◌⊎◌, Ok, Err, IfOk, IfErr};
 ghost use Rattle.std.specs.Option.{option_map};
 ghost use Rattle.serde_json.specs.View.{members_view, view};
-ghost use Rattle.lock_reader.specs.Lock.{lock_in, lock_of, packages_of as packages_in, version_of as version_in};
+ghost use Rattle.lock_reader.specs.Lock.{IsAscending, lock_in, lock_of, packages_of as packages_in, version_of as version_in};
 ghost use Rattle.lock_reader.specs.declared.fault.LockFault.TheVariants as fault;
 
 use crate::entries::read_entries;
@@ -39,6 +39,7 @@ fn packages_of(value: &Value) -> Option<&Map<String, Value>>
 #[tactic(auto, unfolding(crate::specs::Lock::lock_in))]
 fn read_lock_in(alloc: Global, value: &Value) -> Result<Lock, LockFault>
     ensures lock { IfOk result (λ lock. lock_in (view value.now) ≡ Ok lock.entries) }
+    ensures ascending { IfOk result (λ lock. IsAscending lock.entries) }
     ensures fault { IfErr result (λ f. (f ≡ fault.OutOfMemory) ⊎ (lock_in (view value.now) ≡ Err f)) }
 {
     if !value.is_object() {
@@ -67,6 +68,7 @@ fn read_lock_in(alloc: Global, value: &Value) -> Result<Lock, LockFault>
 /// with `OutOfMemory`.
 pub fn read_lock(alloc: Global, bytes: &[u8]) -> Result<Lock, LockFault>
     ensures lock { IfOk result (λ lock. lock_of bytes.now ≡ Ok lock.entries) }
+    ensures ascending { IfOk result (λ lock. IsAscending lock.entries) }
     ensures fault { IfErr result (λ f. (f ≡ fault.OutOfMemory) ⊎ (lock_of bytes.now ≡ Err f)) }
 {
     match read_value(alloc, bytes)? {
