@@ -1,5 +1,5 @@
 -- Facts of readings in general, and of `holds` on views.
-use Rattle.std.proofs.Common.{◌≡◌, ℕ, Bool, List, [], ◌∷◌, Option, map, refl, ap, sym, ◌∙◌, subst}
+use Rattle.std.proofs.Common.{◌≡◌, ℕ, Bool, List, [], ◌∷◌, map, refl, ap, sym, ◌∙◌, subst}
 use Rattle.std.proofs.lemmas.List.Folds.{list_all-map}
 use Rattle.std.specs.List.{list_all, list_any}
 use Rattle.npm_range.specs.Conditions.{Condition, condition_of, conditions_of}
@@ -10,11 +10,11 @@ use Rattle.npm_range.specs.declared.fault.RangeFault.TheVariants.{At, OutOfMemor
 use Rattle.npm_range.specs.declared.comparator.Comparator.{Comparator}
 
 -- where each step and each end is the only one at its place, a place has one reading
-pub one_reading : {S A : Type 0} (Step : S → A → S → Type 0) (Ends : S → Option ℕ → Type 0)
+pub one_reading : {S A F : Type 0} (Step : S → A → S → Type 0) (Ends : S → F → Type 0)
     → ((s : S) (a b : A) (t u : S) → Step s a t → Step s b u → (a ≡ b) × (t ≡ u))
-    → ((s : S) (f g : Option ℕ) → Ends s f → Ends s g → f ≡ g)
-    → ((s : S) (a : A) (t : S) (f : Option ℕ) → Step s a t → Ends s f → ⊥)
-    → (s : S) (xs ys : List A) (f g : Option ℕ) → Reads Step Ends s xs f → Reads Step Ends s ys g → (xs ≡ ys) × (f ≡ g)
+    → ((s : S) (f g : F) → Ends s f → Ends s g → f ≡ g)
+    → ((s : S) (a : A) (t : S) (f : F) → Step s a t → Ends s f → ⊥)
+    → (s : S) (xs ys : List A) (f g : F) → Reads Step Ends s xs f → Reads Step Ends s ys g → (xs ≡ ys) × (f ≡ g)
 one_reading Step Ends step end apart s [] [] f g p q = (refl, end s f g p q)
 one_reading Step Ends step end apart s [] (y ∷ ys) f g p q = absurd (apart s y q.0 f q.1 p)
 one_reading Step Ends step end apart s (x ∷ xs) [] f g p q = absurd (apart s x p.0 g p.1 q)

@@ -77,10 +77,10 @@ EndsConditions s (Some offset) = (0 < length (piece s).text) × (offset ≡ (pie
 
 -- ---- readings
 
--- these items are read one after another from a place, each by a step, up to where the reading ends, well or with a fault
-abbrev pub Reads : {S A : Type 0} → (S → A → S → Type 0) → (S → Option ℕ → Type 0) → S → List A → Option ℕ → Type 0
-Reads {S} Step Ends s [] fault = Ends s fault
-Reads {S} Step Ends s (a ∷ items) fault = (left : S) × Step s a left × Reads Step Ends left items fault
+-- these items are read one after another from a place, each by a step, up to where the reading ends in this way
+abbrev pub Reads : {S A F : Type 0} → (S → A → S → Type 0) → (S → F → Type 0) → S → List A → F → Type 0
+Reads {S} Step Ends s [] end = Ends s end
+Reads {S} Step Ends s (a ∷ items) end = (left : S) × Step s a left × Reads Step Ends left items end
 
 -- the conditions of an alternative, or those before its first bad piece and the offset of that piece
 abbrev pub ReadsAlternative : Stretch → List Condition → Option ℕ → Type 0
