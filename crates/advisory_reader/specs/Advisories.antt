@@ -1,14 +1,16 @@
 -- The list of advisories that bytes spell, in this project's own format.
-use Rattle.std.specs.Prelude.{◌≡◌, ℕ, ◌+◌, List, [], ◌∷◌, Option, Some, None, codes}
+use Rattle.std.specs.Prelude.{◌≡◌, ◌⊎◌, ℕ, ◌+◌, List, [], ◌∷◌, Option, Some, None, Result, Ok, Err, codes}
 use Rattle.std.specs.Option.{option_and_then}
 use Rattle.serde_json.specs.Data.{Data, Items, no_items, item}
-use Rattle.serde_json.specs.Find.{as_array, as_object, as_str, get}
+use Rattle.serde_json.specs.Find.{as_array, as_str, get}
 use Rattle.json_value.specs.Bytes.{json_of}
+use Rattle.npm_range.specs.Conditions.{Condition}
 use Rattle.npm_range.specs.Grammar.{IsFirstBad, Reads, Spells}
 use Rattle.advisory_reader.specs.declared.advisory.Advisory.{Advisory}
 use Rattle.advisory_reader.specs.declared.advisory.Selector.{Selector}
 use Rattle.advisory_reader.specs.declared.fault.AdvisoryFault.{AdvisoryFault}
 use Rattle.advisory_reader.specs.declared.fault.AdvisoryFault.TheVariants as fault
+use Rattle.advisory_reader.specs.declared.fault.Field.{Field}
 use Rattle.advisory_reader.specs.declared.fault.Field.TheVariants as field
 
 -- ---- the fields of an item; what is no object has none
@@ -51,27 +53,33 @@ functions_in d = option_and_then selectors_of (option_and_then as_array (get (co
 
 -- ---- items
 
+abbrev pub named_with : Option (List ℕ) → Option (List ℕ) → Option (List ℕ) → Result (List ℕ × List ℕ × List ℕ) Field
+named_with None name range = Err field.Id
+named_with (Some id) None range = Err field.Package
+named_with (Some id) (Some name) None = Err field.Range
+named_with (Some id) (Some name) (Some range) = Ok (id, name, range)
+
+-- the identifier, the package and the text of the range of an item, or the first of these that isn't as it must be
+unfoldable pub named_of : Data → Result (List ℕ × List ℕ × List ℕ) Field
+named_of d = named_with (some_text_in (codes "id") d) (some_text_in (codes "package") d) (text_in (codes "range") d)
+
 -- the value describes the advisory
 abbrev pub IsAdvisory : Data → Advisory → Type 0
-IsAdvisory d a = (some_text_in (codes "id") d ≡ Some a.id) × (some_text_in (codes "package") d ≡ Some a.package)
-    × ((text : List ℕ) × (text_in (codes "range") d ≡ Some text) × Spells text a.range)
-    × (functions_in d ≡ Some a.functions)
+IsAdvisory d a = (range : List ℕ) × (named_of d ≡ Ok (a.id, a.package, range)) × Spells range a.range × (functions_in d ≡ Some a.functions)
 
--- the value has an identifier and a package
-abbrev pub IsNamed : Data → Type 0
-IsNamed d = (id : List ℕ) × (package : List ℕ) × (some_text_in (codes "id") d ≡ Some id) × (some_text_in (codes "package") d ≡ Some package)
+-- the range of the item has its first bad piece at this offset
+abbrev pub HasBadRange : Data → ℕ → Type 0
+HasBadRange d at = (named : List ℕ × List ℕ × List ℕ) × (named_of d ≡ Ok named) × IsFirstBad named.2 at
 
--- the first thing that is wrong with the item at an index, in the order identifier, package, range, functions
+-- all that comes before the functions of the item is as it must be, and the functions are not
+abbrev pub HasBadFunctions : Data → Type 0
+HasBadFunctions d = (named : List ℕ × List ℕ × List ℕ) × (range : List (List Condition)) × (named_of d ≡ Ok named) × Spells named.2 range × (functions_in d ≡ None)
+
+-- the first thing that is wrong with the item at an index
 abbrev pub IsWrong : ℕ → Data → AdvisoryFault → Type 0
-IsWrong index d fault.NotJson = ⊥
-IsWrong index d fault.Shape = ⊥
-IsWrong index d fault.OutOfMemory = ⊥
-IsWrong index d (fault.Field i field.Id) = (i ≡ index) × (some_text_in (codes "id") d ≡ None)
-IsWrong index d (fault.Field i field.Package) = (i ≡ index) × ((id : List ℕ) × (some_text_in (codes "id") d ≡ Some id)) × (some_text_in (codes "package") d ≡ None)
-IsWrong index d (fault.Field i field.Range) = (i ≡ index) × IsNamed d × (text_in (codes "range") d ≡ None)
-IsWrong index d (fault.Range i at) = (i ≡ index) × IsNamed d × ((text : List ℕ) × (text_in (codes "range") d ≡ Some text) × IsFirstBad text at)
-IsWrong index d (fault.Field i field.Functions) = (i ≡ index) × IsNamed d
-    × ((text : List ℕ) × (range : _) × (text_in (codes "range") d ≡ Some text) × Spells text range) × (functions_in d ≡ None)
+IsWrong index d f = ((wrong : Field) × (named_of d ≡ Err wrong) × (f ≡ fault.Field index wrong))
+    ⊎ (((at : ℕ) × HasBadRange d at × (f ≡ fault.Range index at))
+    ⊎ (HasBadFunctions d × (f ≡ fault.Field index field.Functions)))
 
 -- ---- the list
 
@@ -79,29 +87,36 @@ IsWrong index d (fault.Field i field.Functions) = (i ≡ index) × IsNamed d
 abbrev pub NextAdvisory : ℕ × Items → Advisory → ℕ × Items → Type 0
 NextAdvisory place a left = (d : Data) × (place.1 ≡ item d left.1) × (left.0 ≡ place.0 + 1) × IsAdvisory d a
 
--- the list ends well where no item is left, and with a fault at an item in which something is wrong
+-- the list ends where no item is left, or with the fault of an item in which something is wrong
 abbrev pub EndsList : ℕ × Items → Option AdvisoryFault → Type 0
 EndsList place None = place.1 ≡ no_items
 EndsList place (Some f) = (d : Data) × (left : Items) × (place.1 ≡ item d left) × IsWrong place.0 d f
 
 -- the items are these advisories, or they begin with these and then comes the fault
 abbrev pub ReadsList : Items → List Advisory → Option AdvisoryFault → Type 0
-ReadsList ds advisories fault = Reads NextAdvisory EndsList (0, ds) advisories fault
+ReadsList ds advisories end = Reads NextAdvisory EndsList (0, ds) advisories end
 
 -- the items of the array `advisories`
-abbrev pub items_in : Data → Option Items
+unfoldable pub items_in : Data → Option Items
 items_in d = option_and_then as_array (get (codes "advisories") d)
+
+abbrev pub items_or_shape : Option Items → Result Items AdvisoryFault
+items_or_shape None = Err fault.Shape
+items_or_shape (Some ds) = Ok ds
+
+abbrev pub items_in_json : Option Data → Result Items AdvisoryFault
+items_in_json None = Err fault.NotJson
+items_in_json (Some d) = items_or_shape (items_in d)
+
+-- the items that bytes have, where they are a JSON text with an array `advisories`
+abbrev pub items_of : List ℕ → Result Items AdvisoryFault
+items_of bytes = items_in_json (json_of bytes)
 
 -- the bytes spell the advisories
 abbrev pub SpellsAdvisories : List ℕ → List Advisory → Type 0
-SpellsAdvisories bytes advisories = (ds : Items) × (option_and_then items_in (json_of bytes) ≡ Some ds) × ReadsList ds advisories None
+SpellsAdvisories bytes advisories = (ds : Items) × (items_of bytes ≡ Ok ds) × ReadsList ds advisories None
 
--- what is wrong with the bytes: they are no JSON text, have no array `advisories`, or an item of it is wrong
+-- the first thing that is wrong with the bytes
 abbrev pub IsFault : List ℕ → AdvisoryFault → Type 0
-IsFault bytes fault.NotJson = json_of bytes ≡ None
-IsFault bytes fault.Shape = (d : Data) × (json_of bytes ≡ Some d) × (items_in d ≡ None)
-IsFault bytes fault.OutOfMemory = ⊥
-IsFault bytes (fault.Field index f) = (ds : Items) × (option_and_then items_in (json_of bytes) ≡ Some ds)
-    × ((before : List Advisory) × ReadsList ds before (Some (fault.Field index f)))
-IsFault bytes (fault.Range index at) = (ds : Items) × (option_and_then items_in (json_of bytes) ≡ Some ds)
-    × ((before : List Advisory) × ReadsList ds before (Some (fault.Range index at)))
+IsFault bytes f = (items_of bytes ≡ Err f)
+    ⊎ ((ds : Items) × (before : List Advisory) × (items_of bytes ≡ Ok ds) × ReadsList ds before (Some f))

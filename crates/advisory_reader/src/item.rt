@@ -25,24 +25,31 @@ fn read_range(alloc: Global, index: u32, text: &str) -> Result<Range, AdvisoryFa
     }
 }
 
+/// The fault that a member of the advisory at this index isn't as it must be.
+fn wrong_field(index: u32, field: Field) -> AdvisoryFault
+    ensures { result ≡ fault.Field index field }
+{
+    AdvisoryFault::Field { index, field }
+}
+
 /// The advisory that a value describes, at this index of the list.
+#[tactic(auto, unfolding(crate::specs::Advisories::named_of))]
 pub(crate) fn read_item(alloc: Global, index: u32, value: &Value) -> Result<Advisory, AdvisoryFault>
     ensures advisory { IfOk result (λ a. IsAdvisory (view value.now) a) }
     ensures wrong { IfErr result (λ f. (f ≡ fault.OutOfMemory) ⊎ IsWrong index (view value.now) f) }
 {
-    let wrong = |field: Field| AdvisoryFault::Field { index, field };
     let Some(id) = some_text_in(value, "id") else {
-        return Err(wrong(Field::Id));
+        return Err(wrong_field(index, Field::Id));
     };
     let Some(package) = some_text_in(value, "package") else {
-        return Err(wrong(Field::Package));
+        return Err(wrong_field(index, Field::Package));
     };
     let Some(range) = text_in(value, "range") else {
-        return Err(wrong(Field::Range));
+        return Err(wrong_field(index, Field::Range));
     };
     let range = read_range(alloc, index, range)?;
     let Some(functions) = read_functions(alloc, value)? else {
-        return Err(wrong(Field::Functions));
+        return Err(wrong_field(index, Field::Functions));
     };
     Ok(Advisory {
         id: Text::of(alloc, id)?,

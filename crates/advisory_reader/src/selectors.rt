@@ -30,6 +30,7 @@ pub(crate) fn some_text_in<'v>(value: &'v Value, name: &str) -> Option<&'v str>
 }
 
 /// The selector that a value describes.
+#[tactic(auto, unfolding(crate::specs::Advisories::selector_of))]
 fn read_selector(alloc: Global, value: &Value) -> Result<Option<Selector>, OutOfMemory>
     ensures { IfOk result (λ found. found ≡ selector_of (view value.now)) }
 {
@@ -43,6 +44,7 @@ fn read_selector(alloc: Global, value: &Value) -> Result<Option<Selector>, OutOf
 }
 
 /// The selectors that all these values describe.
+#[tactic(auto, unfolding(crate::specs::Advisories::selectors_of))]
 fn read_selectors(alloc: Global, values: &[Value]) -> Result<Option<List<Selector>>, OutOfMemory>
     ensures { IfOk result (λ found. found ≡ selectors_of (items_view values.now)) }
 {
@@ -57,7 +59,10 @@ fn read_selectors(alloc: Global, values: &[Value]) -> Result<Option<List<Selecto
 }
 
 /// The selectors of the member `functions`.
-pub(crate) fn read_functions(alloc: Global, value: &Value) -> Result<Option<List<Selector>>, OutOfMemory>
+pub(crate) fn read_functions(
+    alloc: Global,
+    value: &Value,
+) -> Result<Option<List<Selector>>, OutOfMemory>
     ensures { IfOk result (λ found. found ≡ functions_in (view value.now)) }
 {
     match value.get("functions") {
