@@ -58,6 +58,14 @@ fn files_of_another_shape_are_refused(rt: HostRuntime) {
     for text in ["", "[", "{\"advisories\":[}"] {
         check_fault(&rt, alloc, text, AdvisoryFault::NotJson);
     }
+    let mut deep = String::new(alloc);
+    for text in ["["; 128] {
+        assert!(rt; deep.push_str(text).is_ok());
+    }
+    for text in ["]"; 128] {
+        assert!(rt; deep.push_str(text).is_ok());
+    }
+    check_fault(&rt, alloc, deep.as_str(), AdvisoryFault::NotJson);
 }
 
 #[test]
