@@ -1,0 +1,2 @@
+pub mod Advisories
+pub mod Answers

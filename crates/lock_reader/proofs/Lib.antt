@@ -1,0 +1,4 @@
+pub mod Prepending
+pub mod Ascending
+pub mod Owners
+pub mod Texts

@@ -1,0 +1,15 @@
+//! Lockfiles as npm writes them: which packages are installed where, and to which of them a file
+//! belongs.
+#![tactic(auto)]
+
+mod entries;
+mod fault;
+mod lock;
+mod owner;
+mod read;
+#[cfg(test)]
+mod tests;
+
+pub use fault::LockFault;
+pub use lock::{Lock, LockEntry};
+pub use read::read_lock;

@@ -1,0 +1,20 @@
+-- The alternative at the front of a stretch.
+use Rattle.std.proofs.Common.{◌≡◌, ℕ, ◌+◌, ◌<◌, List, [], ◌∷◌, length, take, drop, Some, suc, ap, arith}
+use Rattle.std.proofs.lemmas.List.{length-drop}
+use Rattle.std.specs.Str.Pattern.{HasTextAt, LacksTextAt}
+use Rattle.npm_range.specs.Grammar.{IsFront, Stretch}
+
+-- what `split_once` finds is the front
+pub IsFront-found : (n i j : ℕ) (text front rest : List ℕ) → ((k : ℕ) → k < i → LacksTextAt (124 ∷ 124 ∷ []) text k)
+    → HasTextAt (124 ∷ 124 ∷ []) text i j → front ≡ take i text → rest ≡ drop j text → length front ≡ i
+    → IsFront (record { at = n; text = text }) (record { at = n; text = front }) (Some (record { at = n + length front + 2; text = rest }))
+IsFront-found n i j text front rest lacks has f r w =
+    let ends : j ≡ i + 2 = has.ends in
+    let place : n + length front + 2 ≡ n + (i + 2) = omega arith in
+    (i, (drop j text, has.split), (λ k l h. lacks k l h.0 h.1), cc, cc)
+
+-- what follows is shorter
+pub IsFront-shorter : (s a t : Stretch) → IsFront s a (Some t) → length t.text < length s.text
+IsFront-shorter s a t h =
+    let long : length (drop h.0 s.text) ≡ suc (suc (length h.1.0)) = ap length h.1.1 in
+    rw h.4 (omega (arith, length-drop h.0 s.text, length-drop (h.0 + 2) s.text))

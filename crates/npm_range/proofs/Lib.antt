@@ -1,0 +1,5 @@
+pub mod Alternatives
+pub mod Operators
+pub mod Pieces
+pub mod Readings
+pub mod Uniqueness
