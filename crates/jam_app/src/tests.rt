@@ -67,10 +67,10 @@ fn words_of(alloc: Global, line: &str) -> Result<Vec<Text>, Fail> {
     Ok(words)
 }
 
-// Compares what a run left: its status and the line on err, with nothing on the output.
-fn compare(rt: &impl Abort, bench: &Bench, status: &Status, line: &str, number: u8, err: &str) {
-    assert_eq!(rt; status.number(), number, "{line}");
-    assert_eq!(rt; bench.out.bytes(), b"".as_slice());
+// Compares what a run left: its status, the output and the line on err.
+fn compare(rt: &impl Abort, bench: &Bench, status: &Status, number: u8, out: &str, err: &str) {
+    assert_eq!(rt; status.number(), number, "{out}{err}");
+    assert_eq!(rt; bench.out.bytes(), out.as_bytes());
     assert_eq!(rt; bench.err.bytes(), err.as_bytes());
 }
 
@@ -102,8 +102,7 @@ fn a_text_is_taken_or_refused_at_its_place(rt: HostRuntime) -> Result<(), Fail> 
         ),
     ] {
         let mut bench = set_up(alloc, "index.js", text, 0, 99)?;
-        let line = "graph ./a/../index.js";
-        let words = words_of(alloc, line)?;
+        let words = words_of(alloc, "graph ./a/../index.js")?;
         let status = ran::<HostRuntime, Brand>(
             &rt,
             alloc,
@@ -111,7 +110,7 @@ fn a_text_is_taken_or_refused_at_its_place(rt: HostRuntime) -> Result<(), Fail> 
             words.as_slice(),
             Blank::new(1),
         );
-        compare(&rt, &bench, &status, line, number, err);
+        compare(&rt, &bench, &status, number, "", err);
     }
     Ok(())
 }
@@ -143,7 +142,7 @@ fn an_entry_is_a_file_that_can_be_code(rt: HostRuntime) -> Result<(), Fail> {
             words.as_slice(),
             Blank::new(1),
         );
-        compare(&rt, &bench, &status, line, number, err);
+        compare(&rt, &bench, &status, number, "", err);
     }
     Ok(())
 }
@@ -170,7 +169,73 @@ fn words_are_canonical_or_a_usage(rt: HostRuntime) -> Result<(), Fail> {
             words.as_slice(),
             Blank::new(1),
         );
-        compare(&rt, &bench, &status, line, number, err);
+        compare(&rt, &bench, &status, number, "", err);
+    }
+    Ok(())
+}
+
+#[test]
+fn calls_have_edges_to_what_their_names_declare(rt: HostRuntime) -> Result<(), Fail> {
+    let alloc = rt.alloc();
+    for (text, out) in [
+        (
+            "function f() { g(); }\nfunction g() { }\nf();\n",
+            "index.js:1:17 -> index.js:2:1 g\nindex.js:3:2 -> index.js:1:1 f\n",
+        ),
+        (
+            "function f() { }\nfunction f() { }\nf();\n",
+            "index.js:3:2 -> index.js:1:1 f\nindex.js:3:2 -> index.js:2:1 f\n",
+        ),
+        (
+            "function f() { }\nfunction g() {\n  function f() { }\n  f();\n}\nf();\n",
+            "index.js:4:4 -> index.js:3:3 f\nindex.js:6:2 -> index.js:1:1 f\n",
+        ),
+        (
+            "g(); require(); exports(); setTimeout();\nfunction f() { arguments(); }\n",
+            "",
+        ),
+        (
+            "require();\nfunction require() { }\n",
+            "index.js:1:8 -> index.js:2:1 require\n",
+        ),
+        (
+            "function f() { f(); }\nfunction g() { h(); }\nfunction h() { g(); }\n",
+            "index.js:1:17 -> index.js:1:1 f\nindex.js:2:17 -> index.js:3:1 h\nindex.js:3:17 -> index.js:2:1 g\n",
+        ),
+    ] {
+        let mut bench = set_up(alloc, "index.js", text.as_bytes(), 0, 99)?;
+        let words = words_of(alloc, "graph index.js")?;
+        let status = ran::<HostRuntime, Brand>(
+            &rt,
+            alloc,
+            &mut bench,
+            words.as_slice(),
+            Blank::new(1),
+        );
+        compare(&rt, &bench, &status, 0, out, "");
+    }
+    Ok(())
+}
+
+#[test]
+fn a_fault_ends_the_run_where_it_occurs(rt: HostRuntime) -> Result<(), Fail> {
+    let alloc = rt.alloc();
+    for (failing, room, number, out, err) in [
+        (0, 4, 4, "inde", "jam: write failed\n"),
+        (1, 99, 3, "", "jam: read failed\n"),
+        (2, 99, 3, "", "jam: read failed\n"),
+    ] {
+        let text = b"function f() { g(); }\nfunction g() { }\nf();\n".as_slice();
+        let mut bench = set_up(alloc, "index.js", text, failing, room)?;
+        let words = words_of(alloc, "graph index.js")?;
+        let status = ran::<HostRuntime, Brand>(
+            &rt,
+            alloc,
+            &mut bench,
+            words.as_slice(),
+            Blank::new(1),
+        );
+        compare(&rt, &bench, &status, number, out, err);
     }
     Ok(())
 }

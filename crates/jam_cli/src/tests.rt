@@ -21,7 +21,8 @@ fn the_current_folder_is_read(rt: HostRuntime) -> Result<(), Fail> {
     assert!(rt; folder.read(alloc, &absent).ok().ok_or("absent")?.is_none());
     assert!(rt; folder.read(alloc, &inside).ok().ok_or("inside")?.is_none());
     let bytes = folder.read(alloc, &present).ok().flatten().ok_or("bytes")?;
-    assert_eq!(rt; bytes.as_slice(), b"\n \n".as_slice());
+    let text = b"function f() { g(); }\nfunction g() { }\nf();\n".as_slice();
+    assert_eq!(rt; bytes.as_slice(), text);
     Ok(())
 }
 
