@@ -1,9 +1,7 @@
 -- What a walk over a tree finds at each kind of node.
-use Rattle.std.proofs.Common.{◌≡◌, ℕ, ◌+◌, ◌<◌, Bool, true, false, cond, List, [], ◌∷◌, ◌++◌, length, drop, get_or, map, Bor, Option, Some, None, refl, sym, ap, ◌∙◌, subst, append_assoc, append-nil, take}
+use Rattle.std.proofs.Common.{◌≡◌, ℕ, ◌+◌, ◌<◌, List, [], ◌∷◌, ◌++◌, length, get_or, map, Bor, Option, Some, None, refl, sym, ap, ◌∙◌, append_assoc, append-nil, take}
 use Rattle.std.proofs.lemmas.List.{map-append}
 use Rattle.std.specs.List.{flat_map}
-use Rattle.std.specs.Option.{option_map, is_some}
-use Rattle.std.specs.Str.{bytes_eq}
 use Rattle.std.proofs.lemmas.List.{take_more}
 use Rattle.std.proofs.lemmas.Grind.{flat_map-append}
 use Rattle.js_tree.specs.declared.token.Token.{Token}
@@ -14,13 +12,12 @@ use Rattle.js_tree.specs.declared.tree.Function.{Function}
 use Rattle.js_tree.specs.declared.tree.Function.TheVariants as made
 use Rattle.js_tree.specs.declared.tree.Params.{Params}
 use Rattle.js_tree.specs.declared.tree.Stmt.{Stmt}
-use Rattle.js_tree.specs.declared.tree.Stmt.TheVariants as statement
 use Rattle.js_tree.specs.declared.tree.Tail.{Tail}
 use Rattle.js_tree.specs.declared.tree.Tail.TheVariants as tail
 use Rattle.js_tree.proofs.SpellingLemmas.{Kind, kind, IsName, IsChain}
 use Rattle.js_scopes.specs.Names.{Scope, Numbering, Around, function_number}
-use Rattle.js_scopes.specs.Uses.{Used, Use, expr, function, stmt, own_pair, name_calls, declaration}
-use Rattle.js_scopes.proofs.UseLaws.{at-Name, at-Chain, at-Plain, at-Fun, at-Keyword}
+use Rattle.js_scopes.specs.Uses.{Used, Use, expr, function, own_pair, name_calls, declaration}
+use Rattle.js_scopes.proofs.UseLaws.{at-Name, at-Chain, at-Keyword}
 use Rattle.composer.specs.declared.found.FoundUse.{FoundUse}
 use Rattle.composer.specs.Found.{found_use}
 use Rattle.composer.specs.Walk.{tokens_of, scopes_of, call_uses, opening_of, both, IsCallOf, function_uses, body_uses, found_declaration}
@@ -89,7 +86,7 @@ pub function_pushed : (n : Numbering) (around : Around) (f : Function) (word : T
     → f ≡ made.Keyword word name params body
     → (old : List FoundUse)
     → (old ++ found_declaration around (function_number n word.start) name) ++ map (found_use n) (body_uses n around (function_number n word.start) body.body)
-        ≡ old ++ map (found_use n) (function_uses n around f)
+    ≡ old ++ map (found_use n) (function_uses n around f)
 function_pushed n around f word name params body e old =
     append_assoc old (found_declaration around (function_number n word.start) name) _
     ∙ ap (λ us. old ++ (us ++ map (found_use n) (body_uses n around (function_number n word.start) body.body))) (declaration_found n around word name)
@@ -110,5 +107,5 @@ pushed_more n f old mid new body i d within before now =
     ∙ append_assoc old (map (found_use n) (flat_map f (take i body))) (map (found_use n) (f (get_or body i d)))
     ∙ ap (λ us. old ++ us) (sym (map-append (found_use n) (flat_map f (take i body)) (f (get_or body i d))))
     ∙ ap (λ us. old ++ map (found_use n) us) (sym (
-        ap (flat_map f) (take_more body i d within) ∙ flat_map-append f (take i body) (get_or body i d ∷ [])
-        ∙ ap (λ us. flat_map f (take i body) ++ us) (append-nil (f (get_or body i d)))))
+    ap (flat_map f) (take_more body i d within) ∙ flat_map-append f (take i body) (get_or body i d ∷ [])
+    ∙ ap (λ us. flat_map f (take i body) ++ us) (append-nil (f (get_or body i d)))))

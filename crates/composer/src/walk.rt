@@ -59,7 +59,10 @@ fn function_number(functions: &[FunctionInfo], start: u32) -> u32
 }
 
 // What the statements declare in the scope around them.
-pub(crate) fn declared_in<'t>(alloc: Global, body: &'t [Stmt]) -> Result<Vec<&'t Token>, OutOfMemory>
+pub(crate) fn declared_in<'t>(
+    alloc: Global,
+    body: &'t [Stmt],
+) -> Result<Vec<&'t Token>, OutOfMemory>
     ensures { IfOk result (λ scope. map (λ t. t.now) scope.items ≡ flat_map (λ x. (used.stmt x).declares) body.now) }
 {
     let mut scope = Vec::new(alloc);

@@ -1,5 +1,5 @@
 -- The tokens of a text stand one behind another, and so do the calls and declarations of its tree.
-use Rattle.std.proofs.Common.{◌≡◌, ℕ, ◌+◌, ◌<◌, ◌≤◌, List, [], ◌∷◌, ◌++◌, length, take, drop, refl, sym, ap, subst, ◌∙◌, append_assoc, append-nil, arith, Some}
+use Rattle.std.proofs.Common.{◌≡◌, ℕ, ◌+◌, ◌<◌, ◌≤◌, List, [], ◌∷◌, ◌++◌, length, sym, ap, subst, ◌∙◌, append_assoc, append-nil, arith, Some}
 use Rattle.std.specs.List.{flat_map, AllByRecursion}
 use Rattle.js_tree.specs.declared.token.Token.{Token}
 use Rattle.js_tree.specs.declared.token.TokenClass.{TokenClass}
@@ -14,12 +14,12 @@ use Rattle.js_tree.specs.declared.tree.Stmt.TheVariants as statement
 use Rattle.js_tree.specs.declared.tree.Tail.TheVariants as tail
 use Rattle.js_tree.specs.declared.tree.Tree.{Tree}
 use Rattle.js_tree.specs.declared.kind.TheConstants.{SEMICOLON, RIGHT_BRACE}
-use Rattle.js_tree.specs.Lexing.{IsOf, Place, Next, LexesTo, Lexes, start_of}
+use Rattle.js_tree.specs.Lexing.{IsOf, Place, LexesTo, start_of}
 use Rattle.js_tree.specs.Spelling as spelling
 use Rattle.js_tree.specs.Spelling.{Piece, Seen, one, tokens, tokens_of, stmts}
 use Rattle.js_tree.specs.Spells.{Spells}
 use Rattle.js_tree.proofs.SpellingLemmas as lines
-use Rattle.js_tree.proofs.WellFormed.{WellSteps, each_fit, call_of}
+use Rattle.js_tree.proofs.WellFormed.{each_fit, call_of}
 use Rattle.js_scopes.specs.Names.{Numbering, Around}
 use Rattle.js_scopes.specs.Scopes.{inside, numbering_of, around_module}
 use Rattle.js_scopes.specs.Uses as used

@@ -1,5 +1,5 @@
 -- What js_scopes sees of each kind of node.
-use Rattle.std.proofs.Common.{◌≡◌, List, ◌++◌, [], ◌∷◌, map, refl, sym, ap, ◌∙◌, Option, Some}
+use Rattle.std.proofs.Common.{◌≡◌, List, [], ◌∷◌, sym, ap, ◌∙◌, Option, Some}
 use Rattle.std.specs.List.{flat_map}
 use Rattle.std.proofs.lemmas.List.Folds.{flat_map-map}
 use Rattle.js_tree.specs.declared.token.Token.{Token}
@@ -20,7 +20,6 @@ use Rattle.js_tree.specs.declared.tree.Tail.{Tail}
 use Rattle.js_tree.specs.declared.tree.Tail.TheVariants as tail
 use Rattle.js_tree.proofs.Induction.{each_expr}
 use Rattle.js_tree.proofs.WellFormed.{call_of}
-use Rattle.js_scopes.specs.declared.function.FunctionInfo.{FunctionInfo}
 use Rattle.js_scopes.specs.Names.{Scope}
 use Rattle.js_scopes.specs.Scopes.{Scoped, expr_step, function_step, stmt_step, expr, function, stmt, inside, name_list, name_of}
 

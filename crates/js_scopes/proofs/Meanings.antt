@@ -1,5 +1,5 @@
 -- What a name of a tree means is what it means among the scopes around it.
-use Rattle.std.proofs.Common.{◌≡◌, ℕ, zero, suc, ◌+◌, ◌<◌, ◌≤◌, List, [], ◌∷◌, ◌++◌, refl, sym, ap, subst, ◌∙◌, arith, ◌==◌, if◌then◌else◌, inl, inr}
+use Rattle.std.proofs.Common.{◌≡◌, ℕ, ◌+◌, ◌<◌, ◌≤◌, List, [], ◌∷◌, ◌++◌, refl, sym, ap, subst, ◌∙◌, arith, ◌==◌, if◌then◌else◌, inl, inr}
 use Rattle.std.specs.Prelude.{Contains}
 use Rattle.std.specs.List.{flat_map}
 use Rattle.std.proofs.lemmas.Bool.Decides.{nat_tests}
@@ -8,7 +8,7 @@ use Rattle.js_tree.specs.declared.tree.Tree.{Tree}
 use Rattle.js_tree.specs.Spells.{Spells}
 use Rattle.js_scopes.specs.declared.binding.Binding.{Binding}
 use Rattle.js_scopes.specs.Names.{Numbering, Around, binding_at}
-use Rattle.js_scopes.specs.Scopes.{BoundName, bound_name, meaning, numbering_of, binding_of}
+use Rattle.js_scopes.specs.Scopes.{bound_name, meaning, numbering_of, binding_of}
 use Rattle.js_scopes.specs.Uses.{Use, called, declared, uses_of}
 use Rattle.js_scopes.proofs.Ascent.{Spaced, uses_spaced}
 use Rattle.js_scopes.proofs.Members.{none, cons_cases}

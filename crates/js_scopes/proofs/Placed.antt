@@ -1,5 +1,5 @@
 -- What a declaration declares is bound in the scope around it.
-use Rattle.std.proofs.Common.{◌≡◌, ℕ, List, [], ◌∷◌, ◌++◌, refl, sym, ap, subst, ◌∙◌, inl, inr, true, false, Bool, Option, Some, None, if◌then◌else◌}
+use Rattle.std.proofs.Common.{◌≡◌, ℕ, List, [], ◌∷◌, refl, sym, ap, subst, ◌∙◌, inl, inr, true, false, Bool, Option, Some, None, if◌then◌else◌}
 use Rattle.std.specs.Prelude.{Contains}
 use Rattle.std.specs.List.{flat_map, AllByRecursion}
 use Rattle.std.specs.Str.{bytes_eq}
@@ -14,17 +14,16 @@ use Rattle.js_tree.specs.declared.tree.Stmt.{Stmt}
 use Rattle.js_tree.specs.declared.tree.Stmt.TheVariants as statement
 use Rattle.js_tree.specs.declared.tree.Tree.{Tree}
 use Rattle.js_tree.specs.Spelling.{AreFit, stmts}
-use Rattle.js_tree.proofs.WellFormed.{WellSteps, each_fit, call_of}
+use Rattle.js_tree.proofs.WellFormed.{each_fit, call_of}
 use Rattle.js_scopes.specs.declared.binding.Binding.{Binding}
 use Rattle.js_scopes.specs.declared.binding.Binding.TheVariants.{Local}
 use Rattle.js_scopes.specs.Names.{Scope, Numbering, Around, first_in, declarer, binding_at, local_number, undeclared}
-use Rattle.js_scopes.specs.Scopes as scopes
-use Rattle.js_scopes.specs.Scopes.{inside, numbering_of, around_module, module_scope}
+use Rattle.js_scopes.specs.Scopes.{inside, numbering_of, around_module}
 use Rattle.js_scopes.specs.Uses as used
 use Rattle.js_scopes.specs.Uses.{Use, called, declared, Used, uses_of}
 use Rattle.js_scopes.proofs.Members.{none, only, cons_cases, here, from_flat_map, into_flat_map}
 use Rattle.js_scopes.proofs.UseLaws as use_laws
-use Rattle.js_scopes.proofs.UseLemmas.{Told, all_told, same_scope}
+use Rattle.js_scopes.proofs.UseLemmas.{all_told, same_scope}
 
 -- the name of a declaration stands in the innermost scope around it
 abbrev pub DeclaresHere : Use → Type 0

@@ -1,5 +1,5 @@
 -- The calls and declarations of each kind of node.
-use Rattle.std.proofs.Common.{◌≡◌, List, ◌++◌, [], ◌∷◌, map, refl, sym, ap, ◌∙◌, Option, Some}
+use Rattle.std.proofs.Common.{◌≡◌, List, [], ◌∷◌, sym, ap, ◌∙◌, Option, Some}
 use Rattle.std.specs.List.{flat_map}
 use Rattle.std.proofs.lemmas.List.Folds.{flat_map-map}
 use Rattle.js_tree.specs.declared.token.Token.{Token}
@@ -21,7 +21,7 @@ use Rattle.js_tree.specs.declared.tree.Tail.TheVariants as tail
 use Rattle.js_tree.proofs.WellFormed.{call_of}
 use Rattle.js_scopes.specs.Names.{Scope}
 use Rattle.js_scopes.specs.Scopes.{inside}
-use Rattle.js_scopes.specs.Uses.{Use, called, declared, Used, own_pair, expr_step, function_step, stmt_step, expr, function, stmt}
+use Rattle.js_scopes.specs.Uses.{called, declared, Used, own_pair, expr_step, function_step, stmt_step, expr, function, stmt}
 
 pub at-Name : (t : Token) → expr (expression.Name t) ≡ expr_step (Expr-F.Name t)
 unfolding expr

@@ -1,5 +1,5 @@
 -- What a name means where it stands (ECMA-262, 9.1 and 9.4.2; the Node.js manual, "The module wrapper").
-use Rattle.std.specs.Prelude.{ℕ, ◌+◌, ◌==◌, Bool, not, List, [], ◌∷◌, Option, Some, None, if◌then◌else◌, nat_lt, codes}
+use Rattle.std.specs.Prelude.{ℕ, ◌+◌, Bool, not, List, [], ◌∷◌, Option, Some, None, if◌then◌else◌, nat_lt, codes}
 use Rattle.std.specs.List.{filter, count_by}
 use Rattle.std.specs.Str.{bytes_eq}
 use Rattle.js_tree.specs.declared.token.Token.{Token}

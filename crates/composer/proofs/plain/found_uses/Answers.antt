@@ -16,7 +16,7 @@ pub returns : goal.returns
 returns c =
     let n = numbering_of c.args.tree.now in
     let same : inner_functions c.args.tree.now ≡ c.in-Some.inner.now =
-        ap rest (sym (c.in_ok-functions.ensures {u = tt}) ∙ sym c.as_slice.ensures ∙ c.in-Some.ensures.cases.0) in
+    ap rest (sym (c.in_ok-functions.ensures {u = tt}) ∙ sym c.as_slice.ensures ∙ c.in-Some.ensures.cases.0) in
     subst (λ us. IfOk c.uses_in.result (λ uses. uses.items ≡ map (found_use n) us))
     (ap (module_uses n) c.as_slice-2.ensures
     ∙ ap (λ s. flat_map (λ x. (used.stmt x).uses n (record { scopes = s ∷ []; holder = 0 })) c.args.tree.now.body) (same_scope c.args.tree.now.body (all_told c.args.tree.now c.requires.1.well.fit)))

@@ -1,5 +1,4 @@
-use Rattle.std.proofs.Common.{List, ap, sym, ◌∙◌}
-use Rattle.composer.specs.declared.found.FoundUse.{FoundUse}
+use Rattle.std.proofs.Common.{ap, sym, ◌∙◌}
 use Rattle.composer.specs.Found.{all_edges}
 use Rattle.composer.proofs.FoundEdges.{plain-found}
 use Rattle.composer.proofs.plain.plain_edges.Goals as goal

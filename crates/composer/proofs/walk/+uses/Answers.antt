@@ -1,4 +1,4 @@
-use Rattle.std.proofs.Common.{◌≡◌, ℕ, ◌+◌, nat_lt, ◌++◌, List, [], ◌∷◌, map, refl, sym, ap, subst, ◌∙◌, OnOk}
+use Rattle.std.proofs.Common.{◌≡◌, ◌+◌, nat_lt, ◌++◌, [], ◌∷◌, map, sym, ap, subst, ◌∙◌, OnOk}
 use Rattle.std.specs.List.{flat_map, count_by}
 use Rattle.std.specs.Option.{option_map}
 use Rattle.std.proofs.lemmas.List.{take_all}
@@ -6,8 +6,8 @@ use borrow.Enum.Total.{values_d, values_d_at}
 use Rattle.js_tree.specs.contracts.tree.Function.{enum}
 use Rattle.js_tree.proofs.SpellingLemmas.{FunctionKind, IsKeyword, function_kind}
 use Rattle.js_scopes.specs.declared.function.FunctionInfo.{FunctionInfo}
-use Rattle.js_scopes.specs.Names.{Numbering, function_number}
-use Rattle.js_scopes.specs.Uses.{Used, Use, stmt}
+use Rattle.js_scopes.specs.Names.{function_number}
+use Rattle.js_scopes.specs.Uses.{Used, stmt}
 use Rattle.js_scopes.proofs.UseLaws.{at-Plain, at-Fun}
 use Rattle.composer.specs.Found.{found_use}
 use Rattle.composer.specs.Walk as walk
@@ -19,9 +19,9 @@ pub push_body-returns : goal.push_body-returns
 push_body-returns t c n same =
     subst (λ s. OnOk c.push_uses.result (Pushes n c.args.out.now.items c.push_uses.new.out.items (flat_map (λ x. (stmt x).uses n (record { scopes = s; holder = c.args.number })) c.args.body.now)))
     (scopes_inside c.as_slice-2.result.now c.as_slice.result c.args.around.scopes.now _
-        (c.as_slice-2.ensures.value ∙ (c.in_ok-extend_from_slice.ensures {u = tt}).items
-        ∙ ap (λ xs. xs ++ c.args.around.scopes.now) ((c.in_ok-push.ensures {u = tt}).items ∙ ap (λ xs. xs ++ c.as_slice.result ∷ []) c.new-scopes.ensures.items))
-        (ap (λ xs. map (λ t. t.now) xs) c.as_slice.ensures.value ∙ c.in_ok-own.ensures {u = tt}))
+    (c.as_slice-2.ensures.value ∙ (c.in_ok-extend_from_slice.ensures {u = tt}).items
+    ∙ ap (λ xs. xs ++ c.args.around.scopes.now) ((c.in_ok-push.ensures {u = tt}).items ∙ ap (λ xs. xs ++ c.as_slice.result ∷ []) c.new-scopes.ensures.items))
+    (ap (λ xs. map (λ t. t.now) xs) c.as_slice.ensures.value ∙ c.in_ok-own.ensures {u = tt}))
     (c.push_uses.ensures n same)
 
 pub push_function-returns : goal.push_function-returns
@@ -31,13 +31,13 @@ push_function-returns t c n same = by_kind (function_kind c.args.function.now)
     by_kind (IsKeyword word name params body e) =
         let a : c.as_slice.result.now ≡ body.body = c.as_slice.ensures ∙ ap (λ v. v.1.1.1.0.body) (ap (values_d enum 0 _) e ∙ values_d_at enum 0 _ (word, (name, (params, (body, tt))))) in
         let number : c.function_number-number.result ≡ function_number n word.start =
-            c.function_number-number.ensures
-            ∙ ap (λ v. count_by (λ f. nat_lt f.start v.0.start) c.args.functions.now + 1) (ap (values_d enum 0 _) e ∙ values_d_at enum 0 _ (word, (name, (params, (body, tt)))))
-            ∙ ap (λ fs. count_by (λ (f : FunctionInfo). nat_lt f.start word.start) fs + 1) (sym same) in
+        c.function_number-number.ensures
+        ∙ ap (λ v. count_by (λ f. nat_lt f.start v.0.start) c.args.functions.now + 1) (ap (values_d enum 0 _) e ∙ values_d_at enum 0 _ (word, (name, (params, (body, tt)))))
+        ∙ ap (λ fs. count_by (λ (f : FunctionInfo). nat_lt f.start word.start) fs + 1) (sym same) in
         let own : option_map (λ t. t.now) c.as_ref.result ≡ name =
-            c.as_ref.ensures.value ∙ ap (λ v. v.1.0) (ap (values_d enum 0 _) e ∙ values_d_at enum 0 _ (word, (name, (params, (body, tt))))) in
+        c.as_ref.ensures.value ∙ ap (λ v. v.1.0) (ap (values_d enum 0 _) e ∙ values_d_at enum 0 _ (word, (name, (params, (body, tt))))) in
         let pushed : c.push_declaration.new.out.items ≡ c.args.out.now.items ++ walk.found_declaration (walk.around_of c.args.around) (function_number n word.start) name =
-            c.in_ok-push_declaration.ensures {u = tt} ∙ (λ i. c.args.out.now.items ++ walk.found_declaration (walk.around_of c.args.around) (number i) (own i)) in
+        c.in_ok-push_declaration.ensures {u = tt} ∙ (λ i. c.args.out.now.items ++ walk.found_declaration (walk.around_of c.args.around) (number i) (own i)) in
         let same_list = (λ i. pushed i ++ map (found_use n) (walk.body_uses n (walk.around_of c.args.around) (number i) (a i))) ∙ function_pushed n (walk.around_of c.args.around) c.args.function.now word name params body e c.args.out.now.items in
         subst (λ z. OnOk c.push_body.result (c.push_body.new.out.items ≡ z)) same_list (c.push_body.ensures n same)
 

@@ -1,5 +1,5 @@
 use Rattle.std.proofs.Common.{ap, sym, ◌∙◌}
-use Rattle.js_scopes.specs.Uses.{Used, expr}
+use Rattle.js_scopes.specs.Uses.{expr}
 use Rattle.composer.proofs.WalkLemmas.{name_is, no_names}
 use Rattle.composer.proofs.walk.name_of.Goals as goal
 

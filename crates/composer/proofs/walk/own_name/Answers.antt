@@ -1,8 +1,7 @@
-use Rattle.std.proofs.Common.{◌≡◌, Option, map, ap, ◌∙◌}
+use Rattle.std.proofs.Common.{◌≡◌, map, ap, ◌∙◌}
 use Rattle.std.specs.Option.{option_map}
 use borrow.Enum.Total.{values_d, values_d_at}
 use Rattle.js_tree.specs.contracts.tree.Function.{enum}
-use Rattle.js_tree.specs.declared.token.Token.{Token}
 use Rattle.js_tree.proofs.SpellingLemmas.{FunctionKind, IsKeyword, function_kind}
 use Rattle.js_scopes.specs.Uses.{function}
 use Rattle.composer.specs.Walk.{tokens_of}

@@ -1,4 +1,4 @@
-use Rattle.std.proofs.Common.{◌≡◌, ◌++◌, List, [], ◌∷◌, refl, sym, ap, subst, ◌∙◌, append-nil, append_assoc, OnOk}
+use Rattle.std.proofs.Common.{◌≡◌, ◌++◌, [], ◌∷◌, sym, ap, subst, ◌∙◌, append-nil, append_assoc, OnOk}
 use Rattle.std.specs.List.{flat_map}
 use borrow.Enum.Total.{values_d, values_d_at}
 use Rattle.js_tree.specs.contracts.tree.Function.{enum}
