@@ -2,6 +2,7 @@ use crate::disk::DiskFolder;
 use crate::sink::StdSink;
 use jam_base::{Failed, Folder, ModulePath, Sink};
 use std::alloc::Global;
+use std::fs;
 use std::io;
 use std::process::Abort;
 use std::test::Fail;
@@ -9,6 +10,8 @@ use std::test::Fail;
 #[test]
 fn the_current_folder_is_read(rt: HostRuntime) -> Result<(), Fail> {
     let alloc = rt.alloc();
+    let text = b"f();\n".as_slice();
+    fs::write(&rt, "index.js", text)?;
     let mut folder = DiskFolder::new(&rt);
     let present = ModulePath::read(alloc, "index.js")?.ok_or("path")?;
     let absent = ModulePath::read(alloc, "index.js/absent\u{0}.js")?.ok_or("path")?;
@@ -21,7 +24,6 @@ fn the_current_folder_is_read(rt: HostRuntime) -> Result<(), Fail> {
     assert!(rt; folder.read(alloc, &absent).ok().ok_or("absent")?.is_none());
     assert!(rt; folder.read(alloc, &inside).ok().ok_or("inside")?.is_none());
     let bytes = folder.read(alloc, &present).ok().flatten().ok_or("bytes")?;
-    let text = b"function f() { g(); }\nfunction g() { }\nf();\n".as_slice();
     assert_eq!(rt; bytes.as_slice(), text);
     Ok(())
 }
