@@ -2,10 +2,9 @@ use crate::disk::DiskFolder;
 use crate::sink::StdSink;
 use jam_base::{Failed, Folder, ModulePath, Sink};
 use std::alloc::Global;
-use std::fs;
-use std::io;
 use std::process::Abort;
 use std::test::Fail;
+use std::{fs, io};
 
 #[test]
 fn the_current_folder_is_read(rt: HostRuntime) -> Result<(), Fail> {
