@@ -1,11 +1,9 @@
 -- One more end tried behind a path.
-use Rattle.std.proofs.Common.{subst, ◌≡◌, true, false, List, [], ◌∷◌, length, Result, Ok, Err, IfOk, ◌++◌, ℕ, Option, Some, None, codes, ap, sym, ◌∙◌}
-use Rattle.std.specs.Prelude.{◌==◌}
+use Rattle.std.proofs.Common.{subst, ◌≡◌, true, false, List, ◌∷◌, ◌++◌, ℕ, Option, Some, None, codes, ap, sym, ◌∙◌}
 use Rattle.std.specs.Option.{option_or, is_some, IfSome}
 use Rattle.jam_base.specs.Files.{Files}
 use Rattle.jam_base.specs.Path.{path_of}
-use Rattle.node_resolve.specs.Targets.{file_at, first_file, file_of}
-use Rattle.node_resolve.specs.declared.fault.ResolveFault.{ResolveFault}
+use Rattle.node_resolve.specs.Targets.{file_at, first_file}
 
 -- what is found with the first end, or else with those behind it, is what is found with all of them
 one_more : (files : Option Files) (path end : List ℕ) (ends more all : List (List ℕ)) (found : Option (List ℕ)) → ends ≡ end ∷ more
@@ -33,12 +31,3 @@ pub not_here : (now files : Option Files) (path end : List ℕ) (ends more all :
 not_here now files path end ends more all None is same front here was =
     one_more files path end ends more all None front (subst (λ (fs : Option Files). Finds fs path end None) same here) was
 not_here now files path end ends more all (Some file) is same front here was = cc
-
--- of a path that isn't empty, the file that it is
-pub file_found : (files : Option Files) (path : List ℕ) (result : Result (Option (List ℕ)) ResolveFault) → (length path == 0) ≡ false
-    → IfOk result (λ found. IfSome files (λ m. found ≡ first_file m path ([] ∷ codes ".js" ∷ codes ".json" ∷ codes ".node" ∷ [])))
-    → IfOk result (λ found. IfSome files (λ m. found ≡ file_of m path))
-unfolding file_of
-file_found files path (Err fault) some found = tt
-file_found None path (Ok file) some found = tt
-file_found (Some m) path (Ok file) some found = rw some found

@@ -36,9 +36,13 @@ abbrev pub first_file : Files → List ℕ → List (List ℕ) → Option (List 
 first_file files path [] = None
 first_file files path (end ∷ ends) = option_or (file_at files (path_of (codes "./" ++ path ++ end))) (first_file files path ends)
 
--- the file that a path is, with or without its extension; the empty path is none
+-- the file that a path is, as it stands or with an extension behind it
+unfoldable pub with_extension : Files → List ℕ → Option (List ℕ)
+with_extension files path = first_file files path ([] ∷ codes ".js" ∷ codes ".json" ∷ codes ".node" ∷ [])
+
+-- the same, where the application folder itself is no file
 unfoldable pub file_of : Files → List ℕ → Option (List ℕ)
-file_of files path = if length path == 0 then None else first_file files path ([] ∷ codes ".js" ∷ codes ".json" ∷ codes ".node" ∷ [])
+file_of files path = if length path == 0 then None else with_extension files path
 
 -- the index of the folder that a path is
 unfoldable pub index_of : Files → List ℕ → Option (List ℕ)

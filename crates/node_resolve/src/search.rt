@@ -1,5 +1,5 @@
 //! Looking for the file that a path leads to.
-ghost use Rattle.std.specs.Prelude.{◌≡◌, ◌++◌, codes, map as each, IfOk, IfSome};
+ghost use Rattle.std.specs.Prelude.{◌≡◌, ◌==◌, ◌++◌, codes, length, map as each, IfOk, IfSome};
 ghost use Rattle.jam_base.specs.Path.{path_of};
 ghost use Rattle.node_resolve.specs.Causes.{HasResolveCause};
 ghost use Rattle.node_resolve.specs.Targets as targets;
@@ -61,7 +61,28 @@ fn first_file<F: Folder>(
     Ok(None)
 }
 
-// The file that the path is, with or without its extension.
+// The file that the path is, as it stands or with an extension behind it.
+#[tactic(auto, unfolding(crate::specs::Targets::with_extension))]
+fn with_extension<F: Folder>(
+    alloc: Global,
+    folder: &mut F,
+    path: &ModulePath,
+) -> Result<Option<ModulePath>, ResolveFault>
+    ensures found { IfOk result (λ found. IfSome (F.files folder.old) (λ m. found ≡ targets.with_extension m path.now)) }
+    ensures same { F.files folder.new ≡ F.files folder.old }
+    ensures cause { HasResolveCause (F.faults folder.old) (F.faults folder.new) result }
+{
+    first_file(alloc, folder, path, &["", ".js", ".json", ".node"])
+}
+
+// Whether the path is the application folder itself.
+fn is_root(path: &ModulePath) -> bool
+    ensures { result ≡ (length path.now == 0) }
+{
+    path.as_str().is_empty()
+}
+
+// The same, where the application folder itself is no file.
 #[tactic(auto, unfolding(crate::specs::Targets::file_of))]
 fn file_of<F: Folder>(
     alloc: Global,
@@ -72,10 +93,10 @@ fn file_of<F: Folder>(
     ensures same { F.files folder.new ≡ F.files folder.old }
     ensures cause { HasResolveCause (F.faults folder.old) (F.faults folder.new) result }
 {
-    if path.as_str().is_empty() {
+    if is_root(path) {
         return Ok(None);
     }
-    first_file(alloc, folder, path, &["", ".js", ".json", ".node"])
+    with_extension(alloc, folder, path)
 }
 
 // The index of the folder that the path is.
