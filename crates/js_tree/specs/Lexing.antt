@@ -5,7 +5,7 @@ use Rattle.std.specs.Str.{bytes_eq}
 use Rattle.js_tree.specs.declared.token.Token.{Token}
 use Rattle.js_tree.specs.declared.token.TokenClass.{TokenClass}
 use Rattle.js_tree.specs.declared.token.TokenClass.TheVariants as class
-use Rattle.js_tree.specs.Characters.{is_blank, is_line_end, is_start, is_part, is_mark}
+use Rattle.js_tree.specs.Characters.{is_blank, is_line_end, is_start, is_part, is_mark, is_quote, is_inner}
 
 -- n is as long as a front of the text with P can be
 pub record Longest (P : List ℕ → Type 0) (text : List ℕ) (n : ℕ) : Type 0 where
@@ -50,10 +50,18 @@ pub record IsMark (text : List ℕ) : Type 0 where
   pub single : length text ≡ 1
   pub mark : is_mark (slice_index text 0) ≡ true
 
+-- a string: a quote, what may stand in it, and the same quote (ECMA-262, 11.8.4)
+pub record IsString (text : List ℕ) : Type 0 where
+  pub quoted : 2 ≤ length text
+  pub begin : is_quote (slice_index text 0) ≡ true
+  pub inner : (i : ℕ) → 0 < i → i + 1 < length text → is_inner (slice_index text 0) (slice_index text i) ≡ true
+  pub end : (i : ℕ) → i + 1 ≡ length text → slice_index text i ≡ slice_index text 0
+
 -- the text is one of a token of the class; the other classes have no tokens in this grammar
 abbrev pub IsOf : TokenClass → List ℕ → Type 0
 IsOf class.Name text = IsIdentifier text × (is_word text ≡ false)
 IsOf class.Word text = IsIdentifier text × (is_word text ≡ true)
+IsOf class.Str text = IsString text
 IsOf class.Punct text = IsMark text
 IsOf _ text = ⊥
 
@@ -61,6 +69,7 @@ IsOf _ text = ⊥
 abbrev pub Reaches : TokenClass → List ℕ → Type 0
 Reaches class.Name = IsIdentifier
 Reaches class.Word = IsIdentifier
+Reaches class.Str = IsString
 Reaches class.Punct = IsMark
 Reaches _ = λ _. ⊥
 
