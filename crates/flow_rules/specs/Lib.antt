@@ -1,4 +1,3 @@
-pub mod Ascending
 pub mod Constraints
 pub mod Flows
 pub mod Vertices

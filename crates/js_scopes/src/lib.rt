@@ -2,9 +2,11 @@
 #![tactic(auto)]
 
 mod binding;
+mod bindings;
 mod function;
 mod site;
 
 pub use binding::{Binding, WrapperName};
-pub use function::{FunctionInfo, functions};
+pub use bindings::Bindings;
+pub use function::FunctionInfo;
 pub use site::SiteInfo;
