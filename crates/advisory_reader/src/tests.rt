@@ -12,6 +12,10 @@ fn check_fault(rt: &impl Abort, alloc: Global, text: &str, fault: AdvisoryFault)
     );
 }
 
+fn field_at(index: u32, field: Field) -> AdvisoryFault {
+    AdvisoryFault::Field { index, field }
+}
+
 /// The fault of a list with this one item.
 fn check_field(rt: &impl Abort, alloc: Global, item: &str, field: Field) -> Result<(), Fail> {
     let text = format!(in alloc; "{{\"advisories\":[{item}]}}")?;
@@ -77,9 +81,12 @@ fn members_are_checked_in_order(rt: HostRuntime) -> Result<(), Fail> {
         ("{}", Field::Id),
         ("{\"id\":\"\"}", Field::Id),
         ("{\"id\":3}", Field::Id),
+        ("{\"id\":null,\"range\":3}", Field::Id),
+        ("{\"id\":\"A\",\"id\":\"\"}", Field::Id),
         ("{\"id\":\"A\"}", Field::Package),
         ("{\"id\":\"A\",\"package\":\"\"}", Field::Package),
         ("{\"id\":\"A\",\"package\":[]}", Field::Package),
+        ("{\"id\":\"A\",\"range\":3}", Field::Package),
         ("{\"id\":\"A\",\"package\":\"a\"}", Field::Range),
         ("{\"id\":\"A\",\"package\":\"a\",\"range\":1}", Field::Range),
         (
@@ -99,12 +106,45 @@ fn members_are_checked_in_order(rt: HostRuntime) -> Result<(), Fail> {
             Field::Functions,
         ),
         (
+            "{\"id\":\"A\",\"package\":\"a\",\"range\":\"*\",\"functions\":[{\"name\":\"f\"}]}",
+            Field::Functions,
+        ),
+        (
             "{\"id\":\"A\",\"package\":\"a\",\"range\":\"*\",\"functions\":[{\"file\":1,\"name\":\"f\"}]}",
+            Field::Functions,
+        ),
+        (
+            "{\"id\":\"A\",\"package\":\"a\",\"range\":\"*\",\"functions\":[{\"file\":\"\",\"name\":\"\"},{\"file\":\"*\",\"name\":null}]}",
             Field::Functions,
         ),
     ];
     for (item, field) in rows {
         check_field(&rt, alloc, item, field)?;
+    }
+    Ok(())
+}
+
+#[test]
+fn faults_have_their_messages(rt: HostRuntime) -> Result<(), Fail> {
+    let alloc = rt.alloc();
+    let rows = [
+        (AdvisoryFault::NotJson, "not JSON"),
+        (AdvisoryFault::Shape, "wrong shape"),
+        (field_at(0, Field::Id), "advisory 0: id"),
+        (field_at(1, Field::Package), "advisory 1: package"),
+        (field_at(20, Field::Range), "advisory 20: range"),
+        (field_at(3, Field::Functions), "advisory 3: functions"),
+        (
+            AdvisoryFault::Range { index: 4, at: 17 },
+            "advisory 4: range at 17",
+        ),
+        (AdvisoryFault::OutOfMemory, "out of memory"),
+    ];
+    for (fault, printed) in rows {
+        assert!(rt;
+            format!(in alloc; "{fault}")?.as_str() == printed,
+            "{printed}"
+        );
     }
     Ok(())
 }

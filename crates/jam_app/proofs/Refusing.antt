@@ -1,7 +1,6 @@
 -- Why a file has no tree, and where its text is left.
-use Rattle.std.proofs.Common.{◌≡◌, ℕ, zero, suc, ◌+◌, ◌-◌, ◌<◌, ◌≤◌, Bool, true, false, List, [], ◌∷◌, length, take, drop, slice_index, nat_lt, refl, ap, sym, subst, ◌∙◌, arith, true≢false, ⊎_elim, Option, Some, None, Result, Err, ◌&&◌}
-use Rattle.std.specs.List.{list_all}
-use Rattle.std.specs.Str.{IsAscii, IsCharBoundary}
+use Rattle.std.proofs.Common.{◌≡◌, ℕ, zero, suc, ◌+◌, ◌-◌, ◌<◌, ◌≤◌, Bool, true, false, List, [], ◌∷◌, length, nat_lt, ap, sym, subst, ◌∙◌, arith, true≢false, ⊎_elim, Option, Some, None, Result, Err, ◌&&◌}
+use Rattle.std.specs.Str.{IsAscii}
 use Rattle.std.proofs.lemmas.Bool.{cases_lt}
 use Rattle.std.proofs.lemmas.List.{length-drop}
 use Rattle.std.proofs.lemmas.Bool.Decides.{nat_tests}
@@ -16,9 +15,10 @@ use Rattle.js_parser.specs.Reading.{IsStop}
 use Rattle.jam_base.specs.Files.{Files}
 use Rattle.jam_app.specs.declared.refusal.Refusal.{Refusal}
 use Rattle.jam_app.specs.declared.refusal.Refusal.TheVariants as refusal
-use Rattle.std.specs.FinMap as map
-use Rattle.std.specs.Option.{is_some, IfSome}
-use Rattle.jam_app.specs.Entries.{Module, entry_in, entry_path, module_at, module_with}
+use Rattle.std.specs.Option.{option_map, IfSome}
+use Rattle.node_resolve.specs.declared.target.Target.{Target}
+use Rattle.node_resolve.specs.Targets.{entry_target}
+use Rattle.jam_app.specs.Entries.{Module, entry_in, module_path, module_at}
 use Rattle.jam_app.specs.Graphs.{is_ascii, IsSpelled, IsBad, IsGraphText}
 use Rattle.jam_app.specs.Refusals.{IsRefusedAt, not_ascii, too_large, stopped, IsRefusal, no_entry, not_in_profile}
 use Rattle.jam_app.specs.declared.graph.Bad.{Bad}
@@ -56,9 +56,6 @@ pub stop_within : (text : List ℕ) (at : ℕ) → IsStop (start_of text) at →
 stop_within text at stop =
     let all : stop.reached.at + length stop.reached.left ≡ 0 + length text = lexes_within stop.tokens (start_of text) stop.reached stop.lexes in
     omega (arith, stop.place, stop.trivia.within)
-
-pub boundary : (text : List ℕ) (at : ℕ) → IsAscii text → at ≤ length text → IsCharBoundary text at
-boundary text at ascii within = (within, λ below high. absurd (omega (arith, ascii at)))
 
 -- a byte that isn't ASCII
 pub bad_bytes : (bytes : List ℕ) (at : ℕ) → is_ascii bytes ≡ false → at ≡ 0 → IsBad bytes × IsRefusedAt bytes at
@@ -102,22 +99,12 @@ no_refusal operand files text owed owes (no_entry none) = some_none (sym owes.fo
 no_refusal operand files text owed owes (not_in_profile entry at found bad where_) =
     bad owes.graph.tree (subst (λ (m : Module). IsSpelled m.bytes owes.graph.tree) (same_some (sym owes.found ∙ found)) owes.graph.spelled)
 
--- an operand that names no path of an entry
-pub no_path : (operand : List ℕ) (files : Option Files) (path : Option (List ℕ)) → path ≡ entry_path operand → path ≡ None
-    → IfSome files (λ m. IsRefusal operand m refusal.NoEntry)
-no_path operand None path is none = tt
-no_path operand (Some m) path is none = no_entry (ap (λ (p : Option (List ℕ)). module_at p m) (sym is ∙ none))
-
-without_file : (path : List ℕ) (bytes : Option (List ℕ)) → false ≡ is_some bytes → module_with path bytes ≡ None
-without_file path None e = refl
-without_file path (Some bytes) e = absurd (true≢false (sym e))
-
--- a path at which no file stands
-pub no_file : (operand path : List ℕ) (files : Option Files) (found : Option (List ℕ)) (there : Bool) → found ≡ entry_path operand → found ≡ Some path
-    → IfSome files (λ m. there ≡ map.contains_key m path) → there ≡ false → IfSome files (λ m. IsRefusal operand m refusal.NoEntry)
-no_file operand path None found there is some answer absent = tt
-no_file operand path (Some m) found there is some answer absent =
-    no_entry (ap (λ (p : Option (List ℕ)). module_at p m) (sym is ∙ some) ∙ without_file path (map.get m path) (sym absent ∙ answer))
+-- an operand whose target isn't a module
+pub no_module : (operand : List ℕ) (files : Option Files) (found : Target) (path : Option (List ℕ)) → IfSome files (λ m. found ≡ entry_target m (Some operand))
+    → path ≡ module_path found → path ≡ None → IfSome files (λ m. IsRefusal operand m refusal.NoEntry)
+no_module operand None found path is named none = tt
+no_module operand (Some m) found path is named none =
+    no_entry (ap (option_map (module_at m)) (ap module_path (sym is) ∙ sym named ∙ none))
 
 -- a module that no tree spells
 pub no_tree : (operand path bytes : List ℕ) (bad : Bad) (files : Option Files) (before now : ℕ) (stop : Stop)

@@ -1,8 +1,7 @@
 -- Why a request is refused.
 use Rattle.std.specs.Prelude.{◌≡◌, ℕ, ◌<◌, List, length, Some, None, true, false}
-use Rattle.js_tree.specs.declared.tree.Tree.{Tree}
 use Rattle.js_tree.specs.Lexing.{start_of}
-use Rattle.js_tree.specs.Spells.{Spells, limit}
+use Rattle.js_tree.specs.Spells.{limit}
 use Rattle.js_parser.specs.Reading.{IsStop}
 use Rattle.jam_base.specs.Files.{Files}
 use Rattle.jam_app.specs.Entries.{Module, entry_in}

@@ -1,5 +1,5 @@
 -- What a step of the work that reads the folder answers.
-use Rattle.std.specs.Prelude.{◌≡◌, ℕ, List, Result, Ok, Err, Option, Some, IfSome}
+use Rattle.std.specs.Prelude.{ℕ, List, Result, Ok, Err, Option, Some, IfSome}
 use Rattle.jam_base.specs.Causes.{Rose}
 use Rattle.jam_base.specs.Files.{Files}
 use Rattle.jam_app.specs.declared.stop.Stop.{Stop}

@@ -1,13 +1,13 @@
 //! The entry file.
-ghost use Rattle.std.specs.Prelude.{◌≡◌, ◌≤◌, nat_eq, IfOk, Some};
-ghost use Rattle.std.specs.List.{ends_with};
-ghost use Rattle.std.specs.Str.{bytes_eq};
+ghost use Rattle.std.specs.Prelude.{◌≡◌, ◌≤◌, IfSome, OnOk, Some};
+ghost use Rattle.node_resolve.specs.Targets.{entry_target};
 ghost use Rattle.jam_app.specs.Entries as entries;
 ghost use Rattle.jam_app.specs.Refusals.{IsRefusal};
 ghost use Rattle.jam_app.specs.Work.{Gives};
 
 use crate::{Refusal, Stop};
-use jam_base::{Folder, ModulePath, OutOfMemory, ReadFailed};
+use jam_base::{Folder, ModulePath, ReadFailed};
+use node_resolve::{ResolveFault, Target, entry_of};
 use std::alloc::Global;
 
 /// A module's file: its path and its bytes.
@@ -17,59 +17,35 @@ pub(crate) struct Source {
     pub(crate) bytes: Vec<u8>,
 }
 
-// What stands behind the last slash.
-fn last_part(text: &[u8]) -> &[u8]
-    ensures { result.now ≡ entries.last_part text.now }
+// The path of a target that is a module.
+fn module_path(target: Target) -> Option<ModulePath>
+    ensures { result ≡ entries.module_path target }
 {
-    let mut start = text.len();
-    while start > 0 && text[start - 1] != b'/' {
-        start -= 1;
-    }
-    &text[start..]
-}
-
-fn is(text: &[u8], other: &[u8]) -> bool
-    ensures { result ≡ bytes_eq text.now other.now }
-{
-    text == other
-}
-
-fn is_directory_like(text: &str) -> bool
-    ensures { result ≡ entries.is_directory_like text.now }
-{
-    let last = last_part(text.as_bytes());
-    is(last, b"") || is(last, b".") || is(last, b"..")
-}
-
-fn ends(text: &[u8], end: &[u8]) -> bool
-    ensures { result ≡ ends_with nat_eq text.now end.now }
-{
-    text.ends_with(end)
-}
-
-fn is_no_code(path: &str) -> bool
-    ensures { result ≡ entries.is_no_code path.now }
-{
-    ends(path.as_bytes(), b".json") || ends(path.as_bytes(), b".node")
-}
-
-// The path that an operand names, where it can be an entry.
-fn entry_path(alloc: Global, operand: &str) -> Result<Option<ModulePath>, OutOfMemory>
-    ensures { IfOk result (λ found. found ≡ entries.entry_path operand.now) }
-{
-    if is_directory_like(operand) {
-        return Ok(None);
-    }
-    let mut text = String::from_str(alloc, "./")?;
-    text.push_str(operand)?;
-    match ModulePath::read(alloc, text.as_str())? {
-        Some(path) if !is_no_code(path.as_str()) => Ok(Some(path)),
-        _ => Ok(None),
+    match target {
+        Target::Module(path) => Some(path),
+        Target::NotCode(_) | Target::Core | Target::Missing => None,
     }
 }
 
-/// Reads the entry that an operand names: `./` and the operand is its path, which isn't directory-like
-/// and doesn't end `.json` or `.node`, and a file stands there.
+// The path of the entry that an operand names.
+fn entry_path<F: Folder>(alloc: Global, folder: &mut F, operand: &str) -> Result<ModulePath, Stop>
+    ensures gives { Gives (λ m path. entries.module_path (entry_target m (Some operand.now)) ≡ Some path)
+        (IsRefusal operand.now) (F.files folder.old) (F.faults folder.old) (F.faults folder.new) result }
+    ensures same { F.files folder.new ≡ F.files folder.old }
+    ensures later { F.faults folder.old ≤ F.faults folder.new }
+    ensures kept { OnOk result (F.faults folder.new ≡ F.faults folder.old) }
+{
+    match entry_of(alloc, folder, Some(operand)) {
+        Ok(target) => match module_path(target) {
+            Some(path) => Ok(path),
+            None => Err(Stop::Refused(Refusal::NoEntry, None)),
+        },
+        Err(ResolveFault::ReadFault) => Err(Stop::ReadFault),
+        Err(ResolveFault::OutOfMemory) => Err(Stop::OutOfMemory),
+    }
+}
+
+/// Reads the entry that an operand names: the module that is the target of `./` and the operand.
 pub(crate) fn source_of<F: Folder>(
     alloc: Global,
     folder: &mut F,
@@ -80,14 +56,7 @@ pub(crate) fn source_of<F: Folder>(
     ensures same { F.files folder.new ≡ F.files folder.old }
     ensures later { F.faults folder.old ≤ F.faults folder.new }
 {
-    let Some(path) = entry_path(alloc, operand)? else {
-        return Err(Stop::Refused(Refusal::NoEntry, None));
-    };
-    match folder.is_file(&path) {
-        Err(_) => return Err(Stop::ReadFault),
-        Ok(false) => return Err(Stop::Refused(Refusal::NoEntry, None)),
-        Ok(true) => {}
-    }
+    let path = entry_path(alloc, folder, operand)?;
     match folder.read(alloc, &path) {
         Err(ReadFailed::Failed) => Err(Stop::ReadFault),
         Err(ReadFailed::OutOfMemory) => Err(Stop::OutOfMemory),

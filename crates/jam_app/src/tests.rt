@@ -125,13 +125,19 @@ fn an_entry_is_a_file_that_can_be_code(rt: HostRuntime) -> Result<(), Fail> {
         ("index.js", "graph ../index.js", 0, 2, none),
         ("index.js", "graph index.js/", 0, 2, none),
         ("index.js", "graph index.js/.", 0, 2, none),
-        ("index.js", "graph .", 0, 2, none),
+        ("index.js", "graph ..", 0, 2, none),
+        ("a/index.js", "graph .", 0, 2, none),
         ("a", "graph a/b/..", 0, 2, none),
         ("data.json", "graph data.json", 0, 2, none),
         ("addon.node", "graph addon.node", 0, 2, none),
         ("index.js", "graph index.js", 1, 3, failed),
         ("index.js", "graph index.js", 2, 3, failed),
         ("index.js", "graph index.js", 3, 0, ""),
+        ("index.js", "graph index", 0, 0, ""),
+        ("index.js", "graph .", 0, 0, ""),
+        ("a/index.js", "graph a", 0, 0, ""),
+        ("a/index.js", "graph a", 5, 3, failed),
+        ("a/index.js", "graph a", 6, 3, failed),
     ] {
         let mut bench = set_up(alloc, path, b"", failing, 99)?;
         let words = words_of(alloc, line)?;

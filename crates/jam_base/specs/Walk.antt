@@ -1,5 +1,5 @@
 -- A walk over the characters before an offset, which keeps the line and the column so far.
-use Rattle.std.specs.Prelude.{ℕ, ◌+◌, Bool, true, false, List, [], ◌∷◌, ◌==◌, if◌then◌else◌, length}
+use Rattle.std.specs.Prelude.{ℕ, ◌+◌, Bool, true, false, List, ◌∷◌, ◌==◌, if◌then◌else◌, length}
 use Rattle.jam_base.specs.Place.{line_ends, last_line}
 use Rattle.jam_base.specs.declared.place.Walk.{Walk}
 

@@ -61,6 +61,54 @@ fn paths_are_read_in_normal_form(rt: HostRuntime) -> Result<(), Fail> {
     Ok(())
 }
 
+// The text of the path that a text names, begun at the path that another names, or `none`.
+fn joined(alloc: Global, base: &str, text: &str) -> Result<Text, Fail> {
+    let base = ModulePath::read(alloc, base)?.ok_or("base")?;
+    match base.join(alloc, text)? {
+        Some(path) => Ok(Text::of(alloc, path.as_str())?),
+        None => Ok(Text::of(alloc, "none")?),
+    }
+}
+
+#[test]
+fn paths_are_joined_in_normal_form(rt: HostRuntime) -> Result<(), Fail> {
+    let alloc = rt.alloc();
+    for (base, text, want) in [
+        ("a/b", "", "a/b"),
+        ("a/b", "..", "a"),
+        ("a/b", "./", "a/b"),
+        ("a/b", ".//a", "a/b/a"),
+        ("a/b", "../../c", "c"),
+        ("a/b", "../..", ""),
+        ("a/b", "../../..", "none"),
+        ("a/b", "c/../../../../d", "none"),
+        ("a/b", "/c", "none"),
+        ("", "a", "a"),
+        ("", "..", "none"),
+        ("a", "\0", "a/\0"),
+    ] {
+        let found = joined(alloc, base, text)?;
+        assert_eq!(rt; found.as_str(), want, "{base} {text}");
+    }
+    Ok(())
+}
+
+// The text of the parent of the path that a text names.
+fn above(alloc: Global, text: &str) -> Result<Text, Fail> {
+    let path = ModulePath::read(alloc, text)?.ok_or("path")?;
+    Ok(Text::of(alloc, path.parent(alloc)?.as_str())?)
+}
+
+#[test]
+fn a_parent_lacks_the_last_part(rt: HostRuntime) -> Result<(), Fail> {
+    let alloc = rt.alloc();
+    for (text, want) in [("a/b/c.js", "a/b"), ("a/b", "a"), ("a", ""), ("", "")] {
+        let found = above(alloc, text)?;
+        assert_eq!(rt; found.as_str(), want, "{text}");
+    }
+    Ok(())
+}
+
 #[test]
 fn a_folder_in_memory_fails_where_it_is_told(rt: HostRuntime) -> Result<(), Fail> {
     let alloc = rt.alloc();

@@ -3,35 +3,25 @@ ghost use Rattle.std.specs.Prelude.{◌≡◌, ◌⊎◌};
 
 use jam_base::{OutOfMemory, Text};
 use std::alloc::{AllocError, AllocFailed, Global};
-use std::error::Error;
-use std::fmt;
+use thiserror::Error;
 
 /// Why `read_lock` gives no lockfile. The first of these that holds is the one that is told.
-#[derive(Debug, Drop)]
+#[derive(Debug, Drop, Error)]
 pub enum LockFault {
     /// The bytes are no JSON text.
+    #[error("not JSON")]
     NotJson,
     /// What stands at this place has another shape than in a lockfile: the empty place is the file
     /// itself, then come `lockfileVersion` and `packages`, then the first location by bytes.
+    #[error("wrong shape at {}", .place.as_str())]
     Shape { place: Text },
     /// The `lockfileVersion` is none that is read.
+    #[error("lockfileVersion {found}")]
     Version { found: u64 },
     /// There is not enough memory.
+    #[error("out of memory")]
     OutOfMemory,
 }
-
-impl fmt::Display for LockFault {
-    fn fmt<W: fmt::Write>(&self, f: &mut fmt::Formatter<W>) -> fmt::Result {
-        match self {
-            LockFault::NotJson => write!(f, "not JSON"),
-            LockFault::Shape { place } => write!(f, "wrong shape at {}", place.as_str()),
-            LockFault::Version { found } => write!(f, "lockfileVersion {found}"),
-            LockFault::OutOfMemory => write!(f, "out of memory"),
-        }
-    }
-}
-
-impl Error for LockFault {}
 
 impl From<OutOfMemory> for LockFault {
     ghost use Rattle.std.specs.Prelude.{◌≡◌};

@@ -1,5 +1,6 @@
 //! Looking up the entries of a lockfile.
-ghost use Rattle.std.specs.Prelude.{◌≡◌, ◌++◌, ◌∷◌, [], List, codes};
+ghost use Rattle.std.specs.Prelude.{◌≡◌, ◌<◌, ◌≤◌, ◌++◌, ◌∷◌, [], List, codes, length};
+ghost use Rattle.std.specs.Bool.{MatchBool};
 ghost use Rattle.std.specs.List.{find};
 ghost use Rattle.std.specs.Option.{option_map};
 ghost use Rattle.lock_reader.specs.Texts.{after_front as after_front_of};
@@ -79,6 +80,13 @@ impl Lock {
     }
 }
 
+/// Whether the first entry has the longer location, in bytes.
+fn is_longer(entry: &LockEntry, other: &LockEntry) -> bool
+    ensures { MatchBool result (length other.now.location < length entry.now.location) (length entry.now.location ≤ length other.now.location) }
+{
+    other.location.as_str().len() < entry.location.as_str().len()
+}
+
 /// The owner of a path among some entries and one more, given the owner among those.
 fn longer_owner<'e>(
     owner: Option<&'e LockEntry>,
@@ -94,7 +102,7 @@ fn longer_owner<'e>(
     match owner {
         None => Some(entry),
         Some(longest) => {
-            if longest.location.as_str().len() < entry.location.as_str().len() {
+            if is_longer(entry, longest) {
                 Some(entry)
             } else {
                 owner

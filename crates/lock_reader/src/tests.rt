@@ -40,6 +40,11 @@ fn faults_come_in_order(rt: HostRuntime) -> Result<(), Fail> {
             "wrong shape at lockfileVersion",
         ),
         ("{\"lockfileVersion\":-1}", "wrong shape at lockfileVersion"),
+        ("{\"lockfileVersion\":-0}", "wrong shape at lockfileVersion"),
+        (
+            "{\"lockfileVersion\":3.0}",
+            "wrong shape at lockfileVersion",
+        ),
         (
             "{\"lockfileVersion\":2.5}",
             "wrong shape at lockfileVersion",
@@ -55,6 +60,10 @@ fn faults_come_in_order(rt: HostRuntime) -> Result<(), Fail> {
         (
             "{\"lockfileVersion\":18446744073709551615}",
             "lockfileVersion 18446744073709551615",
+        ),
+        (
+            "{\"lockfileVersion\":0,\"packages\":3}",
+            "lockfileVersion 0",
         ),
         ("{\"lockfileVersion\":3}", "wrong shape at packages"),
         (
@@ -76,6 +85,18 @@ fn faults_come_in_order(rt: HostRuntime) -> Result<(), Fail> {
         (
             "{\"lockfileVersion\":3,\"packages\":{\"a\":{}},\"packages\":{\"c\":1}}",
             "wrong shape at c",
+        ),
+        (
+            "{\"lockfileVersion\":3,\"packages\":{\"\u{e9}\":1,\"a/b\":1,\"a-b\":1,\"a\":{}}}",
+            "wrong shape at a-b",
+        ),
+        (
+            "{\"lockfileVersion\":3,\"packages\":{\"\u{e9}\":1,\"z\":1}}",
+            "wrong shape at z",
+        ),
+        (
+            "{\"lockfileVersion\":3,\"packages\":{\"\":[],\"a\":1}}",
+            "wrong shape at ",
         ),
     ];
     for (text, printed) in rows {
@@ -133,13 +154,17 @@ fn owners_are_the_nearest_packages(rt: HostRuntime) -> Result<(), Fail> {
     Ok(())
 }
 
-/// A lockfile with the application and 400 packages, in the shape that npm 10 writes.
+/// A lockfile with the application and 400 packages with one below each, in the shape that npm 10
+/// writes.
 fn large_lock(alloc: Global) -> Result<String, Fail> {
     let mut text = String::from_str(
         alloc,
         "{\"name\":\"app\",\"lockfileVersion\":3,\"requires\":true,\"packages\":{\"\":{\"name\":\"app\",\"version\":\"1.0.0\",\"dependencies\":{\"p1\":\"^1.0.0\"}}",
     )?;
     for i in 0..400u32 {
+        text.push_str(&format!(in alloc;
+            ",\"node_modules/p{i}/node_modules/@s/q\":{{\"version\":\"2.{i}.0\",\"dev\":true,\"license\":\"MIT\",\"peerDependencies\":{{\"p{i}\":\"*\"}}}}"
+        )?)?;
         text.push_str(&format!(in alloc;
             ",\"node_modules/p{i}\":{{\"version\":\"1.{i}.0\",\"resolved\":\"https://registry.npmjs.org/p{i}/-/p{i}-1.{i}.0.tgz\",\"integrity\":\"sha512-Zm9v\",\"engines\":{{\"node\":\">=8\"}}}}"
         )?)?;
@@ -152,7 +177,19 @@ fn large_lock(alloc: Global) -> Result<String, Fail> {
 fn a_large_lockfile_is_read(rt: HostRuntime) -> Result<(), Fail> {
     let alloc = rt.alloc();
     let lock = read_lock(alloc, large_lock(alloc)?.as_bytes())?;
-    assert!(rt; lock.entries.as_slice().len() == 401);
+    assert!(rt; lock.entries.as_slice().len() == 801);
+    let nested = lock
+        .entry("node_modules/p250/node_modules/@s/q")
+        .ok_or("an entry")?;
+    assert!(rt; nested.name.as_str() == "@s/q");
+    assert!(rt; nested.version.as_ref().map(|v| v.as_str()) == Some("2.250.0"));
+    check_owner(
+        &rt,
+        alloc,
+        &lock,
+        "node_modules/p250/node_modules/@s/q/lib/x.js",
+        Some("node_modules/p250/node_modules/@s/q"),
+    )?;
     check_owner(
         &rt,
         alloc,

@@ -1,27 +1,17 @@
 //! Why a text is no range.
 use std::alloc::{AllocError, AllocFailed};
-use std::error::Error;
-use std::fmt;
+use thiserror::Error;
 
 /// Why `Range::read` gives no range.
-#[derive(Clone, Copy, Debug, PartialEq, Eq)]
+#[derive(Clone, Copy, Debug, PartialEq, Eq, Error)]
 pub enum RangeFault {
     /// The first piece that begins no comparator begins at this offset, in bytes from 0.
+    #[error("range at {offset}")]
     At { offset: u32 },
     /// There is not enough memory, or the first bad piece begins at 4,294,967,296 or later.
+    #[error("out of memory")]
     OutOfMemory,
 }
-
-impl fmt::Display for RangeFault {
-    fn fmt<W: fmt::Write>(&self, f: &mut fmt::Formatter<W>) -> fmt::Result {
-        match self {
-            RangeFault::At { offset } => write!(f, "range at {offset}"),
-            RangeFault::OutOfMemory => write!(f, "out of memory"),
-        }
-    }
-}
-
-impl Error for RangeFault {}
 
 impl From<AllocError> for RangeFault {
     ghost use Rattle.std.specs.Prelude.{◌≡◌};

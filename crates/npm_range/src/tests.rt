@@ -105,6 +105,15 @@ fn spaces_bars_and_lone_operators(rt: HostRuntime) -> Result<(), Fail> {
 }
 
 #[test]
+fn faults_have_their_messages(rt: HostRuntime) -> Result<(), Fail> {
+    let alloc = rt.alloc();
+    let at = format!(in alloc; "{}", RangeFault::At { offset: 7 })?;
+    let memory = format!(in alloc; "{}", RangeFault::OutOfMemory)?;
+    assert!(rt; at.as_str() == "range at 7" && memory.as_str() == "out of memory");
+    Ok(())
+}
+
+#[test]
 fn bad_pieces_have_their_offset(rt: HostRuntime) {
     let refused = [
         (">1.0.0 <", 7),

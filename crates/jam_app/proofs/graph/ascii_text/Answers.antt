@@ -1,4 +1,4 @@
-use Rattle.std.proofs.Common.{not, sym, ◌∙◌}
+use Rattle.std.proofs.Common.{sym, ◌∙◌}
 use Rattle.std.proofs.lemmas.Str.{IsUtf8-from_ascii}
 use Rattle.jam_app.proofs.Refusing.{ascii_bytes}
 use Rattle.jam_app.proofs.graph.ascii_text.Goals as goal

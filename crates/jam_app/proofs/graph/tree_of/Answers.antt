@@ -1,6 +1,6 @@
 use Rattle.std.proofs.Common.{Err, ap, refl, ◌∙◌}
 use Rattle.jam_base.specs.declared.place.Place.{Place}
-use Rattle.jam_app.proofs.Refusing.{ascii_bytes, stop_within, boundary, bad_size, bad_text, small_stop}
+use Rattle.jam_app.proofs.Refusing.{bad_size, bad_text, small_stop}
 use Rattle.jam_app.proofs.graph.tree_of.Goals as goal
 
 pub returns-in-Err-TooLarge : goal.returns-in-Err-TooLarge
@@ -19,6 +19,4 @@ place_of-requires-clause-below g c =
     small_stop c.args.text.now c.in-Err-NotInProfile.at c.parse.result c.parse.ensures.too_large c.parse.ensures.placed (c.in-Err-NotInProfile.is ∙ ap Err c.in-Err-NotInProfile.field-0-is)
 
 pub place_of-requires-clause-boundary : goal.place_of-requires-clause-boundary
-place_of-requires-clause-boundary g c =
-    boundary c.args.text.now _ (ascii_bytes c.args.text.now c.requires)
-    (stop_within c.args.text.now _ (c.parse.ensures.placed _ (c.in-Err-NotInProfile.is ∙ ap Err c.in-Err-NotInProfile.field-0-is)))
+place_of-requires-clause-boundary g c = c.parse.ensures.at_character _ (c.in-Err-NotInProfile.is ∙ ap Err c.in-Err-NotInProfile.field-0-is)

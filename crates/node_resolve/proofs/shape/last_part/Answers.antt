@@ -1,11 +1,11 @@
-use Rattle.std.proofs.Common.{◌≡◌, ℕ, ◌-◌, ◌<◌, length, get_or, drop, ap, sym, ◌∙◌, arith, not, true, false}
+use Rattle.std.proofs.Common.{◌≡◌, ◌-◌, ◌<◌, length, get_or, drop, ap, ◌∙◌, arith, not, false}
 use Rattle.std.specs.Prelude.{◌==◌}
 use Rattle.std.specs.List.{suffix_len}
 use Rattle.std.proofs.lemmas.List.{take_all, length-drop}
 use Rattle.std.proofs.lemmas.List.Sums.{suffix_len_is}
 use Rattle.std.proofs.lemmas.Bool.Decides.{nat_tests}
-use Rattle.jam_app.proofs.source.last_part.Goals as goal
-use Rattle.jam_app.proofs.source.last_part.Goals.{then-loop-start-test+else-text-start-ne47, else-loop-start-test}
+use Rattle.node_resolve.proofs.shape.last_part.Goals as goal
+use Rattle.node_resolve.proofs.shape.last_part.Goals.{then-loop-start-test+else-text-start-ne47, else-loop-start-test}
 
 pub returns : goal.returns
 returns c =

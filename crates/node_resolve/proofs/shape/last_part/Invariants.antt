@@ -1,6 +1,6 @@
 use Rattle.std.proofs.Common.{◌≡◌, ℕ, ◌<◌, ◌≤◌, length, get_or, true, not}
 use Rattle.std.specs.Prelude.{◌==◌}
-use Rattle.jam_app.proofs.source.last_part.Given as goal
+use Rattle.node_resolve.proofs.shape.last_part.Given as goal
 
 abbrev pub invariant-loop-start : goal.invariant-loop-start
 invariant-loop-start l = record {
