@@ -1,6 +1,5 @@
 -- Arguments and members, by the token that stands next.
-use Rattle.std.proofs.Common.{◌≡◌, ◌+◌, ◌≤◌, arith, Bool, true, false, List, [], ◌∷◌, Option, Some, None, refl, sym, ◌∙◌, ap, subst, true≢false}
-use Rattle.js_tree.specs.Kinds.{admits}
+use Rattle.std.proofs.Common.{◌≡◌, ◌+◌, ◌≤◌, arith, Bool, true, false, List, [], Option, Some, None, refl, sym, ◌∙◌, ap, subst, true≢false}
 use Rattle.js_tree.specs.Lexing.{Place}
 use Rattle.js_tree.specs.Spelling.{Piece, Functional, is_string, one, arguments_line, expr, function}
 use Rattle.js_tree.specs.declared.form.Form.TheVariants as form

@@ -1,9 +1,9 @@
 -- The statements of the grammar as their parts, by the token that stands next.
-use Rattle.std.proofs.Common.{◌≡◌, ℕ, ◌+◌, ◌≤◌, max, Bool, true, false, not, List, [], ◌∷◌, refl, sym, ap, ◌∙◌, subst, arith, ◌==◌, Option, Some, None, is_some, ◌⊎◌, ⊎_elim, true≢false}
-use Rattle.js_tree.proofs.SpellingLemmas.{FunctionKind, function_kind, IsKeyword, at-Keyword, keyword_seen, PatternKind, pattern_kind, IsTarget, IsMember, at-Target, at-Member, at-Slot, slot_seen, StmtKind, stmt_kind, IsPlain, IsFun, IsVars, at-Plain, at-Fun, at-Vars, vars_seen}
+use Rattle.std.proofs.Common.{◌≡◌, ℕ, ◌+◌, max, Bool, true, false, not, List, [], ◌∷◌, refl, sym, ap, ◌∙◌, subst, arith, ◌==◌, Option, Some, None, is_some, ◌⊎◌, ⊎_elim, true≢false}
+use Rattle.js_tree.proofs.SpellingLemmas.{FunctionKind, function_kind, IsKeyword, at-Keyword, PatternKind, pattern_kind, IsTarget, IsMember, at-Target, at-Member, at-Slot, slot_seen, StmtKind, stmt_kind, IsPlain, IsFun, IsVars, at-Plain, at-Fun, at-Vars, vars_seen}
 use Rattle.js_tree.specs.Kinds.{kind as kind_of}
 use Rattle.js_tree.specs.Lexing.{Place, IsTrivia}
-use Rattle.js_tree.specs.Spelling.{Piece, Seen, Role, Named, Quoted, Functional, Placed, Called, Required, Assigned, Other, expr, function, stmt, slot, pattern, stmts_height, one, params_line, begins_plain, is_done, is_declared, is_a_name, is_required, is_required_init, is_single, member_role, listed_line, each_of, tallest_of, listed_height}
+use Rattle.js_tree.specs.Spelling.{Piece, Seen, Role, Named, Quoted, Functional, Placed, Called, Required, Assigned, Other, expr, function, stmt, slot, pattern, stmts_height, one, params_line, begins_plain, is_done, is_declared, is_a_name, is_required, member_role}
 use Rattle.js_tree.specs.declared.form.Form.TheVariants as form
 use Rattle.js_tree.specs.declared.kind.TheConstants.{NAME, FUNCTION, VAR, EQUALS, SEMICOLON, RIGHT_BRACE}
 use Rattle.js_tree.specs.declared.token.Token.{Token}
@@ -20,10 +20,9 @@ use Rattle.js_tree.specs.declared.tree.Expr.TheOpen.{Slot-F}
 use Rattle.js_tree.specs.declared.tree.Slot.{Slot, out-Slot, roll-Slot, roll-out-Slot, out-roll-Slot}
 use Rattle.js_tree.specs.declared.tree.Stmt.{Stmt}
 use Rattle.js_tree.specs.declared.tree.Stmt.TheVariants as statement
-use Rattle.js_parser.proofs.AheadLemmas.{holds_at}
 use Rattle.js_parser.proofs.CutLemmas.{no_token}
 use Rattle.js_parser.proofs.ViewLemmas.{at_line, with_name, unseen_kind, value_view, required_view}
-use Rattle.js_parser.specs.Nodes.{DoneAt, FunctionAt, Closes, block_line, name_line}
+use Rattle.js_parser.specs.Nodes.{FunctionAt, Closes, block_line, name_line}
 use Rattle.js_parser.specs.Reading.{Reads, Sees, AllHold}
 use Rattle.js_parser.specs.declared.tall.Tall.{Tall}
 

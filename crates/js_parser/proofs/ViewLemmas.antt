@@ -4,7 +4,7 @@ use Rattle.std.specs.Str.{bytes_eq}
 use Rattle.js_tree.proofs.SpellingLemmas.{Kind, kind, IsAssign, IsChain, IsValue, IsLiteral, IsName, at-Assign, at-Chain, at-Value, at-Literal, at-Name, name_seen, FunctionKind, function_kind, IsKeyword, at-Keyword, PatternKind, pattern_kind, IsTarget, IsMember, at-Member, at-Target}
 use Rattle.js_tree.specs.Kinds.{admits}
 use Rattle.js_tree.specs.Lexing.{Place}
-use Rattle.js_tree.specs.Spelling.{Piece, Seen, Role, Named, Quoted, Functional, Placed, Called, Required, Assigned, Other, one, must, each_of, tallest_of, listed_line, listed_height, are_separated, is_empty, is_single, is_string, is_quoted, is_named, is_nameless, is_declared, is_placed, is_required, is_done, is_relative, chain_role, role_with, member_role, calls, tail_line, tail_height, arguments_line, expr, function, pattern}
+use Rattle.js_tree.specs.Spelling.{Piece, Seen, Role, Named, Quoted, Functional, Placed, Called, Required, Assigned, Other, one, must, each_of, tallest_of, listed_height, are_separated, is_empty, is_string, is_quoted, is_named, is_nameless, is_declared, is_placed, is_required, is_done, is_relative, chain_role, role_with, member_role, calls, tail_line, tail_height, arguments_line, expr, function, pattern}
 use Rattle.js_tree.specs.declared.form.Form.TheVariants as form
 use Rattle.js_tree.specs.declared.kind.TheConstants.{NAME, STRING, DOT, EQUALS, LEFT_PAREN, RIGHT_PAREN}
 use Rattle.js_tree.specs.declared.token.Token.{Token}
@@ -20,7 +20,7 @@ use Rattle.js_tree.specs.declared.tree.Tail.TheVariants as tail
 use Rattle.std.proofs.lemmas.Bool.Decides.{nat_tests}
 use Rattle.std.proofs.lemmas.Slice.Eq.{bytes_eq-Decides}
 use Rattle.js_parser.proofs.TokenLemmas.{differ, stops_at}
-use Rattle.js_parser.specs.Heads.{head_line, members_line, MemberStops, alone, is_alone, is_eval, is_require, is_exports, member_tails, call_of, target_of, assign_of, HeadStops}
+use Rattle.js_parser.specs.Heads.{head_line, members_line, MemberStops, alone, is_eval, is_require, is_exports, member_tails, call_of, target_of, assign_of, HeadStops}
 use Rattle.js_parser.specs.Nodes.{DoneAt, ArgumentsAt, are_given, items_line, AfterHead, Calls, Assigns}
 use Rattle.js_parser.specs.Reading.{Reads, Sees, Stops}
 use Rattle.js_parser.specs.declared.path.Head.{Head}

@@ -1,5 +1,5 @@
 -- What a call or an assignment begins with.
-use Rattle.std.specs.Prelude.{◌≡◌, ℕ, List, [], ◌∷◌, ◌++◌, codes, Option, Some, None, Bool, false}
+use Rattle.std.specs.Prelude.{ℕ, List, [], ◌∷◌, ◌++◌, codes, Option, Some, None, Bool, false}
 use Rattle.std.specs.Str.{bytes_eq}
 use Rattle.js_tree.specs.declared.form.Form.TheVariants as form
 use Rattle.js_tree.specs.declared.kind.TheConstants.{NAME, DOT}

@@ -1,6 +1,6 @@
-use Rattle.std.proofs.Common.{List, ◌∷◌, refl, sym, ap, ◌∙◌}
-use Rattle.js_tree.specs.Spelling.{Piece, Onto, Must, one, expr, are_separated}
-use Rattle.js_tree.specs.declared.kind.TheConstants.{LEFT_PAREN, RIGHT_PAREN, STRING}
+use Rattle.std.proofs.Common.{refl}
+use Rattle.js_tree.specs.Spelling.{Onto, one}
+use Rattle.js_tree.specs.declared.kind.TheConstants.{RIGHT_PAREN, STRING}
 use Rattle.js_tree.specs.declared.tree.Arguments.{Arguments}
 use Rattle.js_tree.specs.declared.tree.Expr.{Expr}
 use Rattle.js_parser.proofs.ExitLemmas.{exit}

@@ -1,5 +1,5 @@
 use Rattle.js_parser.proofs.ItemLemmas.{must_be_string, must_be_none}
-use Rattle.std.proofs.Common.{List, subst, sym, ap, ◌∙◌}
+use Rattle.std.proofs.Common.{List, subst, sym, ◌∙◌}
 use Rattle.js_tree.specs.declared.tree.Expr.{Expr}
 use Rattle.js_tree.specs.declared.tree.Listed.{Listed}
 use Rattle.js_parser.specs.Nodes.{items_line}

@@ -1,6 +1,5 @@
-use Rattle.std.proofs.Common.{◌≡◌, Bool, true, sym, ap, ◌∙◌, subst}
+use Rattle.std.proofs.Common.{Bool, true, sym, ap, ◌∙◌, subst}
 use Rattle.js_tree.specs.Spelling.{expr, arguments_line}
-use Rattle.js_tree.specs.declared.tree.Arguments.{Arguments}
 use Rattle.js_tree.specs.declared.tree.Expr.{Expr}
 use Rattle.js_parser.proofs.ExitLemmas.{exit}
 use Rattle.js_parser.proofs.ItemLemmas.{must_be_call}

@@ -1,15 +1,13 @@
-use Rattle.std.proofs.Common.{◌≡◌, List, ℕ, codes, true, false, None, sym, ap, ◌∙◌, subst, true≢false}
+use Rattle.std.proofs.Common.{◌≡◌, codes, true, None, sym, ap, ◌∙◌, subst, true≢false}
 use Rattle.std.specs.Str.{bytes_eq}
 use Rattle.js_tree.specs.Spelling.{expr, arguments_line, is_required}
 use Rattle.js_tree.specs.declared.token.Token.{Token}
-use Rattle.js_tree.specs.declared.tree.Arguments.{Arguments}
 use Rattle.js_tree.specs.declared.tree.Expr.{Expr}
 use Rattle.js_parser.proofs.ExitLemmas.{exit}
 use Rattle.js_parser.proofs.PlaceLemmas.{moved, passes_none, passes_on}
 use Rattle.js_parser.proofs.ViewLemmas.{required_view, require_reads, require_role, require_height}
 use Rattle.js_parser.specs.Heads.{call_of}
 use Rattle.js_parser.specs.Reading.{Reads}
-use Rattle.js_parser.specs.declared.path.Head.{Head}
 use Rattle.js_parser.proofs.call.required.Goals as goal
 
 pub returns-in_err-name-clause-only : goal.returns-in_err-name-clause-only

@@ -1,4 +1,4 @@
-use Rattle.std.proofs.Common.{Some, None, ap, Option, is_some, sym, ◌∙◌, List, ◌≡◌, Bool, true, false, true≢false, refl}
+use Rattle.std.proofs.Common.{Some, None, ap, Option, is_some, sym, ◌∙◌, List, ◌≡◌, true, false, true≢false, refl}
 use Rattle.js_tree.specs.Spelling.{Piece, one}
 use Rattle.js_tree.specs.declared.kind.TheConstants.{NAME}
 use Rattle.js_tree.specs.declared.token.Token.{Token}

@@ -1,9 +1,7 @@
-use Rattle.std.proofs.Common.{sym, ap, ◌∙◌, true≢false}
-use Rattle.js_tree.specs.Spelling.{one}
+use Rattle.std.proofs.Common.{sym, ◌∙◌, true≢false}
 use Rattle.js_parser.proofs.ExitLemmas.{exit}
 use Rattle.js_parser.proofs.PlaceLemmas.{moved, passes_none, passes_on}
 use Rattle.js_parser.specs.Heads.{members_line, is_eval}
-use Rattle.js_parser.specs.declared.path.Head.{Head}
 use Rattle.js_parser.proofs.head.head.Goals as goal
 
 pub returns-in_err-name-clause-only : goal.returns-in_err-name-clause-only

@@ -1,13 +1,11 @@
-use Rattle.std.proofs.Common.{◌≡◌, Some, None, sym, ap, ◌∙◌, subst}
-use Rattle.js_tree.specs.Spelling.{Piece, Onto, one, expr, slot}
+use Rattle.std.proofs.Common.{◌≡◌, sym, ap, ◌∙◌, subst}
+use Rattle.js_tree.specs.Spelling.{Onto, one, expr, slot}
 use Rattle.js_tree.specs.declared.kind.TheConstants.{EQUALS}
-use Rattle.js_tree.specs.declared.token.Token.{Token}
-use Rattle.js_tree.specs.declared.tree.Expr.{Expr}
 use Rattle.js_tree.specs.declared.tree.Slot.{Slot}
 use Rattle.js_parser.proofs.ExitLemmas.{exit}
 use Rattle.js_parser.proofs.PlaceLemmas.{moved, passes_none, passes_on}
 use Rattle.js_parser.proofs.RuleLemmas.{SlotView, slot_view, slot_of, slot_reads, slot_height}
-use Rattle.js_parser.specs.Reading.{Reads, Read}
+use Rattle.js_parser.specs.Reading.{Read}
 use Rattle.js_parser.proofs.variables.slot.Goals as goal
 
 abbrev behind_name : {p : _} {x : Slot} {rest : _} → SlotView p x rest → Onto

@@ -1,5 +1,5 @@
-use Rattle.std.proofs.Common.{◌≡◌, List, Some, None, ◌∷◌, [], ◌++◌, sym, ap, ◌∙◌, subst, arith}
-use Rattle.js_tree.specs.Spelling.{Piece, Onto, one, slot, stmt}
+use Rattle.std.proofs.Common.{List, Some, None, ◌∷◌, [], ◌++◌, sym, ap, ◌∙◌, subst, arith}
+use Rattle.js_tree.specs.Spelling.{Onto, one, slot, stmt}
 use Rattle.js_tree.specs.declared.kind.TheConstants.{SEMICOLON}
 use Rattle.js_tree.specs.declared.tree.Listed.{Listed}
 use Rattle.js_tree.specs.declared.tree.Slot.{Slot}

@@ -9,7 +9,7 @@ use Rattle.js_parser.proofs.ExitLemmas.{exit}
 use Rattle.js_parser.proofs.ItemLemmas.{AssignAfter, must_be_assignment}
 use Rattle.js_parser.proofs.PlaceLemmas.{moved, passes_none, passes_on}
 use Rattle.js_parser.proofs.ViewLemmas.{assign_reads, assign_at}
-use Rattle.js_parser.specs.Heads.{is_exports, assign_of}
+use Rattle.js_parser.specs.Heads.{is_exports}
 use Rattle.js_parser.specs.Nodes.{FunctionAt, DoneAt, max}
 use Rattle.js_parser.specs.Reading.{Reads}
 use Rattle.js_parser.specs.declared.path.Head.{Head}
