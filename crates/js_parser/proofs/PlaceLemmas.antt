@@ -50,3 +50,8 @@ refused_here left bytes at gap now same is long =
       trivia = subst (λ (t : List ℕ). Longest IsTrivia t gap) same long;
       place = refl;
     })
+
+-- what is read further on, some tokens further
+pub moves_on : {Y : Type 0} (p m n : Place) (result : Result Y ParseFault) → Passes p m → Moves m n result → Moves p n result
+moves_on p m n (Ok y) a s = passes_on p m n a s
+moves_on p m n (Err e) a s = refuses_on p m e a s
