@@ -26,6 +26,25 @@ impl Model for Constraints {
 }
 
 impl Constraints {
+    /// What these lists say together, each in its order and without repeats.
+    pub fn of(
+        functions: List<FunctionInfo>,
+        sites: List<SiteInfo>,
+        requires_: List<Require>,
+        notes: List<ModuleNote>,
+        flows: List<Flow>,
+    ) -> Constraints
+        ensures { result ≡ record { functions = functions; sites = sites; requires_ = requires_; notes = notes; flows = flows } }
+    {
+        Constraints {
+            functions,
+            sites,
+            requires_,
+            notes,
+            flows,
+        }
+    }
+
     /// The functions, the module's body first and the others by their start.
     pub fn functions(&self) -> &[FunctionInfo]
         ensures { result.now ≡ self.now.functions }
