@@ -2,8 +2,11 @@ pub mod Application
 pub mod Edges
 pub mod Found
 pub mod Natives
+pub mod Numbered
 pub mod Plain
 pub mod PlainCallees
+pub mod Rows
 pub mod Solution
 pub mod Steps
 pub mod Walk
+pub mod Ways

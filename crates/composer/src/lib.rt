@@ -6,8 +6,11 @@ mod application;
 mod found;
 mod law;
 mod plain;
+mod sets;
+mod sweep;
 mod system;
 mod walk;
+mod ways;
 
 pub use application::{Link, ModuleVertex, Value};
 pub use law::{least_solution, one_edge_list, plain_module};
