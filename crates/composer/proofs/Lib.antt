@@ -12,4 +12,9 @@ pub mod RoomLemmas
 pub mod SpreadLemmas
 pub mod WayLemmas
 pub mod BeginLemmas
+pub mod NumberLemmas
+pub mod Renamed
+pub mod SolvedLemmas
+pub mod PlaceLemmas
+pub mod EdgeLemmas
 pub mod SweepLemmas

@@ -1,5 +1,5 @@
 -- Systems whose vertices have a property, and systems whose vertices and values are numbers.
-use Rattle.std.specs.Prelude.{ℕ, ◌<◌, ◌≡◌, List, length, map, slice_index_or, All}
+use Rattle.std.specs.Prelude.{ℕ, ◌<◌, ◌≡◌, List, [], ◌∷◌, ◌++◌, length, map, flat_map, slice_index_or, All}
 use Rattle.composer.specs.declared.system.Arrow.{Arrow}
 use Rattle.composer.specs.declared.system.Callable.{Callable}
 use Rattle.composer.specs.declared.system.CallSite.{CallSite}
@@ -56,3 +56,16 @@ map_system f g a = record {
   native = g a.native;
   native_at = map f a.native_at;
 }
+
+-- the vertices of a system, one after another
+abbrev pub callable_vertices : {V T : Type 0} → Callable V T → List V
+callable_vertices f = f.literal ∷ (f.params ++ f.rest ∷ f.ret ∷ [])
+
+abbrev pub site_vertices : {V : Type 0} → CallSite V → List V
+site_vertices s = s.callee ∷ (s.args ++ s.more ∷ s.recv ∷ s.res ∷ [])
+
+abbrev pub arrow_vertices : {V : Type 0} → Arrow V → List V
+arrow_vertices x = x.from ∷ x.to ∷ []
+
+abbrev pub all_vertices : {V T : Type 0} → System V T → List V
+all_vertices a = flat_map callable_vertices a.functions ++ flat_map site_vertices a.sites ++ flat_map arrow_vertices a.flows ++ a.elem ∷ a.native_at
