@@ -4,5 +4,17 @@ pub mod PlainCalls
 pub mod PlainCallees
 pub mod PlainEdges
 pub mod OneList
+pub mod StepLemmas
 pub mod FoundEdges
 pub mod WalkLemmas
+pub mod RowLemmas
+pub mod RoomLemmas
+pub mod SpreadLemmas
+pub mod WayLemmas
+pub mod BeginLemmas
+pub mod NumberLemmas
+pub mod Renamed
+pub mod SolvedLemmas
+pub mod PlaceLemmas
+pub mod EdgeLemmas
+pub mod SweepLemmas

@@ -1,0 +1,10 @@
+use Rattle.std.proofs.Common.{◌≡◌, ◌++◌, drop, map}
+use Rattle.std.specs.Prelude.{flat_map}
+use Rattle.std.specs.List.{enumerate_from, range_with_len}
+use Rattle.flow_rules.specs.declared.vertex.Vertex.TheVariants.{Param, Arg}
+use Rattle.composer.specs.Application.{at_module, callable_of, site_of, flow_of, link_flow, native_places, of_each}
+use Rattle.composer.specs.Natives.{native_names}
+use Rattle.composer.proofs.build.push_functions.Given as goal
+
+abbrev pub invariant-loop-f : goal.invariant-loop-f
+invariant-loop-f l = l.out.items ++ map (callable_of l.m) (enumerate_from l.f (drop l.f l.functions)) ≡ l.fn.out.items ++ map (callable_of l.m) (enumerate_from 0 l.functions)

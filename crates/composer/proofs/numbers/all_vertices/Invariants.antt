@@ -1,0 +1,15 @@
+use Rattle.std.proofs.Common.{◌≡◌, ◌<◌, ◌++◌, ℕ, drop, take, map, length}
+use Rattle.std.specs.Prelude.{flat_map, All, slice_index_or}
+use Rattle.composer.specs.Numbered.{callable_vertices, site_vertices, arrow_vertices, Below, IsCallableIn, IsSiteIn, IsArrowIn, map_arrow, map_callable, map_site}
+use Rattle.composer.specs.Numbers.{value_at, vertex_at}
+use Rattle.composer.proofs.NumberLemmas.{Numbers, HasPlaces}
+use Rattle.composer.proofs.numbers.all_vertices.Given as goal
+
+abbrev pub invariant-loop-callable : goal.invariant-loop-callable
+invariant-loop-callable l = l.out.items ++ flat_map callable_vertices (drop l.callable-index l.system.functions) ≡ flat_map callable_vertices l.system.functions
+
+abbrev pub invariant-loop-site : goal.invariant-loop-site
+invariant-loop-site l = l.out.items ++ flat_map site_vertices (drop l.site-index l.system.sites) ≡ flat_map callable_vertices l.system.functions ++ flat_map site_vertices l.system.sites
+
+abbrev pub invariant-loop-flow : goal.invariant-loop-flow
+invariant-loop-flow l = l.out.items ++ flat_map arrow_vertices (drop l.flow-index l.system.flows) ≡ flat_map callable_vertices l.system.functions ++ flat_map site_vertices l.system.sites ++ flat_map arrow_vertices l.system.flows
