@@ -1,13 +1,12 @@
 -- What js_scopes sees of each kind of node.
-use Rattle.std.proofs.Common.{◌≡◌, List, [], ◌∷◌, ◌++◌, map, length, refl, sym, ap, ◌∙◌, append-nil, ℕ, false, Option, Some, None}
+use Rattle.std.proofs.Common.{◌≡◌, List, [], ◌∷◌, ◌++◌, map, refl, ap, ◌∙◌, append-nil, ℕ, false, Option, Some, None}
 use Rattle.std.specs.List.{flat_map}
 use Rattle.std.proofs.lemmas.Grind.{flat_map-append}
 use Rattle.std.proofs.lemmas.List.Folds.{flat_map-map}
 use Rattle.js_tree.specs.declared.token.Token.{Token}
-use Rattle.js_tree.specs.declared.tree.Arguments.{Arguments}
 use Rattle.js_tree.specs.declared.tree.Block.{Block}
 use Rattle.js_tree.specs.declared.tree.Expr.{Expr}
-use Rattle.js_tree.specs.declared.tree.Expr.TheOpen.{Expr-F, Function-F, Pattern-F, Stmt-F, Slot-F}
+use Rattle.js_tree.specs.declared.tree.Expr.TheOpen.{Expr-F, Pattern-F, Stmt-F}
 use Rattle.js_tree.specs.declared.tree.Expr.TheVariants as expression
 use Rattle.js_tree.specs.declared.tree.Function.{Function}
 use Rattle.js_tree.specs.declared.tree.Function.TheVariants as made
@@ -24,8 +23,8 @@ use Rattle.js_tree.specs.declared.tree.Tail.TheVariants as tail
 use Rattle.js_tree.proofs.Folds as folds
 use Rattle.js_tree.proofs.Folds.{map_listed, map_arguments, map_tail, map_init, map_block}
 use Rattle.js_scopes.specs.Names.{Scope}
-use Rattle.js_scopes.specs.Scopes.{Scoped, anonymous, bound_name, items_of, in_tail, last_member, tails_sites, names_require, name_list, name_of, inside, init_list, declared_by_var, expr_step, function_step, pattern_step, stmt_step, slot_step, expr, function, pattern, stmt, slot}
-use Rattle.js_scopes.specs.Walks.{tail_items, in_items, in_tails, in_init, in_slots, in_stmts}
+use Rattle.js_scopes.specs.Scopes.{Scoped, anonymous, items_of, in_tail, last_member, tails_sites, names_require, name_list, name_of, inside, init_list, declared_by_var, expr_step, function_step, pattern_step, stmt_step, slot_step, expr, function, pattern, stmt, slot}
+use Rattle.js_scopes.specs.Walks.{in_items, in_tails, in_init, in_slots, in_stmts}
 
 module _ {A : Type 0} (g : Scoped → List A) where
   items-map : (xs : List (Listed Expr)) → flat_map g (map (λ x. x.item) (map (map_listed expr) xs)) ≡ in_items g xs

@@ -1,7 +1,6 @@
 -- What a walk over the lists of a tree gathers.
-use Rattle.std.specs.Prelude.{List, [], ◌∷◌, Option, Some, None}
+use Rattle.std.specs.Prelude.{List, [], Option, Some, None}
 use Rattle.std.specs.List.{flat_map}
-use Rattle.js_tree.specs.declared.tree.Arguments.{Arguments}
 use Rattle.js_tree.specs.declared.tree.Expr.{Expr}
 use Rattle.js_tree.specs.declared.tree.Init.{Init}
 use Rattle.js_tree.specs.declared.tree.Listed.{Listed}

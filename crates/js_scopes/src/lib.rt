@@ -4,9 +4,11 @@
 mod binding;
 mod bindings;
 mod function;
+mod order;
 mod site;
 
 pub use binding::{Binding, WrapperName};
 pub use bindings::Bindings;
 pub use function::FunctionInfo;
+pub use order::{Ranked, ascending};
 pub use site::SiteInfo;
