@@ -1,5 +1,5 @@
 -- What js_scopes sees of each kind of node.
-use Rattle.std.proofs.Common.{◌≡◌, List, [], ◌∷◌, ◌++◌, map, refl, ap, ◌∙◌, append-nil, ℕ, false, Option, Some, None}
+use Rattle.std.proofs.Common.{◌≡◌, List, [], ◌∷◌, ◌++◌, map, refl, sym, ap, ◌∙◌, subst, slice_get, ◌-◌, length, append-nil, arith, ℕ, false, Option, Some, None}
 use Rattle.std.specs.List.{flat_map}
 use Rattle.std.proofs.lemmas.Grind.{flat_map-append}
 use Rattle.std.proofs.lemmas.List.Folds.{flat_map-map}
@@ -24,7 +24,7 @@ use Rattle.js_tree.proofs.Folds as folds
 use Rattle.js_tree.proofs.Folds.{map_listed, map_arguments, map_tail, map_init, map_block}
 use Rattle.js_scopes.specs.Names.{Scope}
 use Rattle.js_scopes.specs.Scopes.{Scoped, anonymous, items_of, in_tail, last_member, tails_sites, names_require, name_list, name_of, inside, init_list, declared_by_var, expr_step, function_step, pattern_step, stmt_step, slot_step, expr, function, pattern, stmt, slot}
-use Rattle.js_scopes.specs.Walks.{in_items, in_tails, in_init, in_slots, in_stmts}
+use Rattle.js_scopes.specs.Walks.{tail_gives, in_items, in_tails, in_init, in_slots, in_stmts}
 
 module _ {A : Type 0} (g : Scoped → List A) where
   items-map : (xs : List (Listed Expr)) → flat_map g (map (λ x. x.item) (map (map_listed expr) xs)) ≡ in_items g xs
@@ -45,9 +45,31 @@ module _ {A : Type 0} (g : Scoped → List A) where
   slots-map [] = refl
   slots-map (x ∷ xs) = ap (λ ys. g (slot x.item) ++ ys) (slots-map xs)
 
--- the name that the last member of a chain gives
-abbrev pub chain_gives : List (Tail Expr) → List ℕ
-chain_gives tails = last_member (map (map_tail expr) tails)
+abbrev IsThere : Option (Tail Expr) → Type 0
+IsThere None = ⊥
+IsThere (Some t) = Unit {0}
+
+abbrev given_by : Option (Tail Expr) → List ℕ
+given_by None = anonymous
+given_by (Some t) = tail_gives t
+
+last-map : (tails : List (Tail Expr)) → last_member (map (map_tail expr) tails) ≡ last_member tails
+last-map [] = refl
+last-map (tail.Member dot name ∷ []) = refl
+last-map (tail.Call a ∷ []) = refl
+last-map (tail.Member dot name ∷ t ∷ tails) = last-map (t ∷ tails)
+last-map (tail.Call a ∷ t ∷ tails) = last-map (t ∷ tails)
+
+last_at : (x : Tail Expr) (tails : List (Tail Expr)) (t : Tail Expr) → Some t ≡ slice_get (x ∷ tails) (length tails) → last_member (x ∷ tails) ≡ tail_gives t
+last_at (tail.Member dot name) [] t e = sym (ap given_by e)
+last_at (tail.Call a) [] t e = sym (ap given_by e)
+last_at (tail.Member dot name) (y ∷ tails) t e = last_at y tails t e
+last_at (tail.Call a) (y ∷ tails) t e = last_at y tails t e
+
+-- the last tail gives the name
+pub last_gives : (tails : List (Tail Expr)) (t : Tail Expr) → Some t ≡ slice_get tails (length tails - 1) → last_member tails ≡ tail_gives t
+last_gives [] t e = absurd (subst IsThere e tt)
+last_gives (x ∷ tails) t e = let n : length (x ∷ tails) - 1 ≡ length tails = omega arith in last_at x tails t (e ∙ ap (slice_get (x ∷ tails)) n)
 
 -- what is seen of an assignment
 abbrev pub assign_seen : Pattern → Token → Expr → Scoped
@@ -62,7 +84,7 @@ abbrev pub chain_seen : Expr → List (Tail Expr) → Scoped
 chain_seen head tails = record {
   is = [];
   string = None;
-  gives = chain_gives tails;
+  gives = last_member tails;
   own_name = [];
   declares = λ m. [];
   functions = λ given. (expr head).functions anonymous ++ in_tails (λ x. x.functions anonymous) tails;
@@ -78,7 +100,7 @@ at-Chain head tails =
     ∙ (λ i. record {
       is = [];
       string = None;
-      gives = chain_gives tails;
+      gives = last-map tails i;
       own_name = [];
       declares = λ m. [];
       functions = λ given. (expr head).functions anonymous ++ tails-map (λ x. x.functions anonymous) tails i;

@@ -1,5 +1,5 @@
 -- What a walk over the lists of a tree gathers.
-use Rattle.std.specs.Prelude.{List, [], Option, Some, None}
+use Rattle.std.specs.Prelude.{ℕ, List, [], Option, Some, None}
 use Rattle.std.specs.List.{flat_map}
 use Rattle.js_tree.specs.declared.tree.Expr.{Expr}
 use Rattle.js_tree.specs.declared.tree.Init.{Init}
@@ -8,7 +8,7 @@ use Rattle.js_tree.specs.declared.tree.Slot.{Slot}
 use Rattle.js_tree.specs.declared.tree.Stmt.{Stmt}
 use Rattle.js_tree.specs.declared.tree.Tail.{Tail}
 use Rattle.js_tree.specs.declared.tree.Tail.TheVariants as tail
-use Rattle.js_scopes.specs.Scopes.{Scoped, expr, stmt, slot}
+use Rattle.js_scopes.specs.Scopes.{Scoped, anonymous, expr, stmt, slot}
 
 -- the arguments in a tail
 abbrev pub tail_items : Tail Expr → List (Listed Expr)
@@ -35,3 +35,8 @@ in_slots g slots = flat_map (λ (x : Listed Slot). g (slot x.item)) slots
 -- what is gathered from each statement
 abbrev pub in_stmts : {A : Type 0} → (Scoped → List A) → List Stmt → List A
 in_stmts g body = flat_map (λ (x : Stmt). g (stmt x)) body
+
+-- the name that a tail gives
+abbrev pub tail_gives : Tail Expr → List ℕ
+tail_gives (tail.Member dot name) = name.text
+tail_gives (tail.Call a) = anonymous

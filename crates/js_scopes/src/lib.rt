@@ -4,11 +4,12 @@
 mod binding;
 mod bindings;
 mod function;
+mod given;
 mod order;
 mod site;
 
 pub use binding::{Binding, WrapperName};
 pub use bindings::Bindings;
-pub use function::FunctionInfo;
+pub use function::{FunctionInfo, functions};
 pub use order::{Ranked, ascending};
 pub use site::SiteInfo;
