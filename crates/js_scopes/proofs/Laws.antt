@@ -20,6 +20,7 @@ use Rattle.js_tree.specs.declared.tree.Stmt.{Stmt}
 use Rattle.js_tree.specs.declared.tree.Stmt.TheVariants as statement
 use Rattle.js_tree.specs.declared.tree.Tail.{Tail}
 use Rattle.js_tree.specs.declared.tree.Tail.TheVariants as tail
+use Rattle.js_tree.proofs.SpellingLemmas.{Kind, IsAssign, IsChain, IsValue, IsLiteral, IsName, kind}
 use Rattle.js_tree.proofs.Folds as folds
 use Rattle.js_tree.proofs.Folds.{map_listed, map_arguments, map_tail, map_init, map_block}
 use Rattle.js_scopes.specs.Names.{Scope}
@@ -257,3 +258,14 @@ at-Vars word decls semi =
       names = λ n around. slots-map (λ x. x.names n around) decls i;
       sites = λ known holder. slots-map (λ x. x.sites known holder) decls i;
     })
+
+-- an expression declares nothing in the scope around it
+pub no_declares : (x : Expr) → (expr x).declares ≡ (λ m. [])
+no_declares x = by_kind (kind x)
+  where
+    by_kind : Kind x → (expr x).declares ≡ (λ m. [])
+    by_kind (IsAssign target op value e) = ap (λ (s : Scoped). s.declares) (ap expr e ∙ at-Assign target op value)
+    by_kind (IsChain head tails e) = ap (λ (s : Scoped). s.declares) (ap expr e ∙ at-Chain head tails)
+    by_kind (IsValue f e) = ap (λ (s : Scoped). s.declares) (ap expr e ∙ at-Value f)
+    by_kind (IsLiteral t e) = ap (λ (s : Scoped). s.declares) (ap expr e ∙ at-Literal t)
+    by_kind (IsName t e) = ap (λ (s : Scoped). s.declares) (ap expr e ∙ at-Name t)

@@ -9,12 +9,12 @@ use Rattle.std.specs.declared.cmp.Ordering.TheVariants.{Less, Equal, Greater}
 use Rattle.js_scopes.specs.Ascending.{with_item, ascending, first_order, MovesFirst, DropsFirst}
 
 -- which of the three an order is
-data Case (r : Ordering) : Type 0 where
+pub data Case (r : Ordering) : Type 0 where
   IsLess : r ≡ Less → Case r
   IsEqual : r ≡ Equal → Case r
   IsGreater : r ≡ Greater → Case r
 
-case_of : (r : Ordering) → Case r
+pub case_of : (r : Ordering) → Case r
 case_of Less = IsLess refl
 case_of Equal = IsEqual refl
 case_of Greater = IsGreater refl
@@ -33,13 +33,13 @@ module _ {X : Type 0} (R : X → X → Ordering) where
   abbrev merge_by : X → X → List X → List X → Ordering → List X
   merge_by x y xs ys r = match_ordering r (x ∷ merge xs (y ∷ ys)) (x ∷ merge xs ys) (y ∷ merge (x ∷ xs) ys)
 
-  item_less : (x y : X) (ys : List X) → R x y ≡ Less → with_item R x (y ∷ ys) ≡ x ∷ y ∷ ys
+  pub item_less : (x y : X) (ys : List X) → R x y ≡ Less → with_item R x (y ∷ ys) ≡ x ∷ y ∷ ys
   item_less x y ys e = ap (item_by x y ys) e
 
-  item_equal : (x y : X) (ys : List X) → R x y ≡ Equal → with_item R x (y ∷ ys) ≡ x ∷ ys
+  pub item_equal : (x y : X) (ys : List X) → R x y ≡ Equal → with_item R x (y ∷ ys) ≡ x ∷ ys
   item_equal x y ys e = ap (item_by x y ys) e
 
-  item_greater : (x y : X) (ys : List X) → R x y ≡ Greater → with_item R x (y ∷ ys) ≡ y ∷ with_item R x ys
+  pub item_greater : (x y : X) (ys : List X) → R x y ≡ Greater → with_item R x (y ∷ ys) ≡ y ∷ with_item R x ys
   item_greater x y ys e = ap (item_by x y ys) e
 
   merge_less : (x y : X) (xs ys : List X) → R x y ≡ Less → merge (x ∷ xs) (y ∷ ys) ≡ x ∷ merge xs (y ∷ ys)

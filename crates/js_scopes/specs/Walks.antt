@@ -1,6 +1,8 @@
 -- What a walk over the lists of a tree gathers.
-use Rattle.std.specs.Prelude.{ℕ, List, [], Option, Some, None}
+use Rattle.std.specs.Prelude.{ℕ, List, [], ◌∷◌, map, Option, Some, None}
+use Rattle.std.specs.Borrow.{Bor}
 use Rattle.std.specs.List.{flat_map}
+use Rattle.js_tree.specs.declared.token.Token.{Token}
 use Rattle.js_tree.specs.declared.tree.Expr.{Expr}
 use Rattle.js_tree.specs.declared.tree.Init.{Init}
 use Rattle.js_tree.specs.declared.tree.Listed.{Listed}
@@ -8,6 +10,7 @@ use Rattle.js_tree.specs.declared.tree.Slot.{Slot}
 use Rattle.js_tree.specs.declared.tree.Stmt.{Stmt}
 use Rattle.js_tree.specs.declared.tree.Tail.{Tail}
 use Rattle.js_tree.specs.declared.tree.Tail.TheVariants as tail
+use Rattle.js_scopes.specs.Names.{Scope}
 use Rattle.js_scopes.specs.Scopes.{Scoped, anonymous, expr, stmt, slot}
 
 -- the arguments in a tail
@@ -40,3 +43,11 @@ in_stmts g body = flat_map (λ (x : Stmt). g (stmt x)) body
 abbrev pub tail_gives : Tail Expr → List ℕ
 tail_gives (tail.Member dot name) = name.text
 tail_gives (tail.Call a) = anonymous
+
+-- the token alone
+abbrev pub one_token : Token → List Token
+one_token t = t ∷ []
+
+-- scopes, each as the tokens that declare in it
+abbrev pub scopes_of : List (Bor (List (Bor Token))) → List Scope
+scopes_of scopes = map (λ s. map (λ t. t.now) s.now) scopes
