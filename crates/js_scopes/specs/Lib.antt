@@ -2,3 +2,4 @@ pub mod Ascending
 pub mod Meanings
 pub mod Names
 pub mod Scopes
+pub mod Walks

@@ -116,7 +116,7 @@ in_tail (tail.Member dot name) = []
 in_tail (tail.Call a) = items_of a
 
 -- the name of the last member, where the last tail is one
-abbrev pub last_member : List (Tail Scoped) → List ℕ
+abbrev pub last_member : {E : Type 0} → List (Tail E) → List ℕ
 last_member [] = anonymous
 last_member (tail.Member dot name ∷ []) = name.text
 last_member (x ∷ xs) = last_member xs

@@ -4,9 +4,15 @@
 mod binding;
 mod bindings;
 mod function;
+mod given;
+mod numbers;
+mod order;
+mod scope;
 mod site;
 
 pub use binding::{Binding, WrapperName};
 pub use bindings::Bindings;
-pub use function::FunctionInfo;
+pub use function::{FunctionInfo, functions};
+pub use numbers::function_number;
+pub use order::{Ranked, ascending};
 pub use site::SiteInfo;
