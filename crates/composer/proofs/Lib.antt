@@ -1,12 +1,6 @@
 pub mod LeastSolution
-pub mod PlainSolution
-pub mod PlainCalls
-pub mod PlainCallees
-pub mod PlainEdges
 pub mod OneList
 pub mod StepLemmas
-pub mod FoundEdges
-pub mod WalkLemmas
 pub mod RowLemmas
 pub mod RoomLemmas
 pub mod SpreadLemmas

@@ -44,13 +44,17 @@ shown_edge path text functions edge = record {
   callee = shown_function path text (function_at functions edge.callee.function);
 }
 
--- the text is the call graph of a module that stands alone: the call edges of the least solution of its constraints
+-- the text is the call edges of the least solution of the constraints of the tree, which stands alone and has this path and text
+pub record IsPrinted (path text : List ℕ) (tree : Tree) (printed : List ℕ) : Type 0 where
+  pub edges : List Edge
+  pub edges_are : IsEdgeList (constraints_of tree ∷ []) [] edges
+  pub graph : printed ≡ graph_text_of (map (shown_edge path text (functions_of tree)) edges)
+
+-- the text is the call graph of a module that stands alone
 pub record IsModuleGraph (path bytes text : List ℕ) : Type 0 where
   pub tree : Tree
-  pub edges : List Edge
   pub spelled : IsSpelled bytes tree
-  pub edges_are : IsEdgeList (constraints_of tree ∷ []) [] edges
-  pub graph : text ≡ graph_text_of (map (shown_edge path bytes (functions_of tree)) edges)
+  pub printed : IsPrinted path bytes tree text
 
 -- the text that `graph` owes for the operand over the files
 pub record IsGraphText (operand : List ℕ) (files : Files) (text : List ℕ) : Type 0 where

@@ -3,14 +3,12 @@ ghost use Rattle.std.specs.Prelude.{◌≡◌, ◌<◌, IfOk, length, map};
 ghost use Rattle.std.specs.Str.{IsAscii};
 ghost use Rattle.jam_base.specs.Place.{place_at};
 ghost use Rattle.js_tree.specs.Spells.{Spells};
-ghost use Rattle.js_scopes.specs.Scopes.{functions_of};
-ghost use Rattle.composer.specs.Plain.{plain_edges as edges_of};
-ghost use Rattle.report_text.specs.Graph.{graph_text_of};
 ghost use Rattle.jam_app.specs.Graphs as graphs;
 
-use composer::plain_edges;
+use composer::compose;
+use flow_rules::constraints;
 use jam_base::{Edge, List, OutOfMemory, Place, Text, place_of};
-use js_scopes::{FunctionInfo, functions};
+use js_scopes::{FunctionInfo, bind};
 use js_tree::Tree;
 use report_text::{PathStep, Shown, graph_text};
 use std::alloc::Global;
@@ -103,10 +101,12 @@ pub(crate) fn printed_edges(
     requires ascii { IsAscii text.now }
     requires short { length text.now < 4294967295 }
     requires spells { Spells text.now tree.now }
-    ensures { IfOk result (λ printed. printed ≡ graph_text_of (map (graphs.shown_edge path.now text.now (functions_of tree.now)) (edges_of tree.now))) }
+    ensures { IfOk result (λ printed. graphs.IsPrinted path.now text.now tree.now printed) }
 {
-    let functions = functions(alloc, tree)?;
-    let edges = plain_edges(alloc, tree)?;
-    let steps = shown_edges(alloc, path, text, functions.as_slice(), edges.as_slice())?;
+    let bindings = bind(alloc, tree)?;
+    let modules = [constraints(alloc, tree, &bindings)?];
+    let graph = compose(alloc, &modules, &[])?;
+    let functions = modules[0].functions();
+    let steps = shown_edges(alloc, path, text, functions, graph.edges())?;
     graph_text(alloc, &List::of(steps))
 }

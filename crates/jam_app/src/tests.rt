@@ -208,6 +208,34 @@ fn calls_have_edges_to_what_their_names_declare(rt: HostRuntime) -> Result<(), F
             "function f() { f(); }\nfunction g() { h(); }\nfunction h() { g(); }\n",
             "index.js:1:17 -> index.js:1:1 f\nindex.js:2:17 -> index.js:3:1 h\nindex.js:3:17 -> index.js:2:1 g\n",
         ),
+        (
+            "exports.go = function () { };\nexports.go();\n",
+            "index.js:2:11 -> index.js:1:14 go\n",
+        ),
+        (
+            "exports.f = function () { exports.g(); };\nexports.g = function () { };\n",
+            "index.js:1:36 -> index.js:2:13 g\n",
+        ),
+        (
+            "exports.forEach = function () { };\na.forEach();\n",
+            "index.js:2:10 -> index.js:1:19 forEach\n",
+        ),
+        (
+            "function f() { }\nf.call();\nf.apply();\nf.bind();\nf.go();\n",
+            "index.js:2:7 -> index.js:1:1 f\nindex.js:3:8 -> index.js:1:1 f\nindex.js:4:7 -> index.js:1:1 f\n",
+        ),
+        (
+            "var a = require(\"./a\");\na.go();\na();\nrequire(\"../b\");\nvar exports = require(\"./c\");\nexports();\n",
+            "",
+        ),
+        (
+            "function f() { var g = require(\"./g\"); g(); }\nfunction g() { }\ng();\n",
+            "index.js:3:2 -> index.js:2:1 g\n",
+        ),
+        (
+            "function require() { }\nvar a = require(\"./a\");\n",
+            "index.js:2:16 -> index.js:1:1 require\n",
+        ),
     ] {
         let mut bench = set_up(alloc, "index.js", text.as_bytes(), 0, 99)?;
         let words = words_of(alloc, "graph index.js")?;
