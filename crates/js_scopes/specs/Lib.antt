@@ -1,4 +1,5 @@
 pub mod Ascending
+pub mod AtHand
 pub mod Meanings
 pub mod Names
 pub mod Scopes

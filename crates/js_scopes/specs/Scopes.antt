@@ -94,21 +94,36 @@ is_reflected name = bytes_eq name (codes "call") || (bytes_eq name (codes "apply
 abbrev pub passed_on : List ℕ → ℕ → ℕ
 passed_on name count = if bytes_eq name (codes "apply") then 0 else count - 1
 
+-- the site of the call that a member of this name passes on
+abbrev pub reflected_sites : ℕ → List ℕ → ℕ → ℕ → List SiteInfo
+reflected_sites holder name offset count = if is_reflected name then record { offset = offset; part = 1; holder = holder; args = passed_on name count } ∷ [] else []
+
 -- the sites of a call with so many arguments at an offset, whose callee is a member of this name or none: the call, and the one that the member passes on
 abbrev pub call_sites : ℕ → Option (List ℕ) → ℕ → ℕ → List SiteInfo
 call_sites holder None offset count = record { offset = offset; part = 0; holder = holder; args = count } ∷ []
 call_sites holder (Some name) offset count =
-    record { offset = offset; part = 0; holder = holder; args = count }
-    ∷ (if is_reflected name then record { offset = offset; part = 1; holder = holder; args = passed_on name count } ∷ [] else [])
+    record { offset = offset; part = 0; holder = holder; args = count } ∷ reflected_sites holder name offset count
 
--- the sites of tails, behind a member of this name or none, where a call of `require` with a string is none
+-- the sites of a call with these arguments at an offset, behind a member of this name or none, where a call of `require` with a string is none
+abbrev pub arguments_sites : Known → ℕ → Bool → Option (List ℕ) → ℕ → List Scoped → List SiteInfo
+arguments_sites known holder required member offset arguments =
+    (if required && is_some (first_string arguments) then [] else call_sites holder member offset (length arguments))
+    ++ flat_map (λ (x : Scoped). x.sites known holder) arguments
+
+-- the sites of a tail
+abbrev pub tail_sites : Known → ℕ → Bool → Option (List ℕ) → Tail Scoped → List SiteInfo
+tail_sites known holder required member (tail.Member dot name) = []
+tail_sites known holder required member (tail.Call a) = arguments_sites known holder required member a.open.start (items_of a)
+
+-- the name of the member that a tail is
+abbrev pub member_in : {E : Type 0} → Tail E → Option (List ℕ)
+member_in (tail.Member dot name) = Some name.text
+member_in (tail.Call a) = None
+
+-- the sites of tails, the first of which stands behind a member of this name or none, and may be a call of `require`
 abbrev pub tails_sites : Known → ℕ → Bool → Option (List ℕ) → List (Tail Scoped) → List SiteInfo
 tails_sites known holder required member [] = []
-tails_sites known holder required member (tail.Member dot name ∷ tails) = tails_sites known holder false (Some name.text) tails
-tails_sites known holder required member (tail.Call a ∷ tails) =
-    (if required && is_some (first_string (items_of a)) then [] else call_sites holder member a.open.start (length a.items))
-    ++ flat_map (λ (x : Scoped). x.sites known holder) (items_of a)
-    ++ tails_sites known holder false None tails
+tails_sites known holder required member (t ∷ tails) = tail_sites known holder required member t ++ tails_sites known holder false (member_in t) tails
 
 -- what stands in a tail
 abbrev pub in_tail : Tail Scoped → List Scoped

@@ -3,8 +3,11 @@
 
 mod binding;
 mod bindings;
+mod call_sites;
+mod calls;
 mod function;
 mod given;
+mod known;
 mod numbers;
 mod order;
 mod scope;
@@ -12,7 +15,9 @@ mod site;
 
 pub use binding::{Binding, WrapperName};
 pub use bindings::Bindings;
+pub use call_sites::sites;
 pub use function::{FunctionInfo, functions};
 pub use numbers::function_number;
 pub use order::{Ranked, ascending};
 pub use site::SiteInfo;
+
