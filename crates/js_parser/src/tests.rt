@@ -313,85 +313,104 @@ fn a_declaration_keeps_its_tokens(rt: HostRuntime) -> Result<(), Fail> {
     Ok(())
 }
 
+/// What is told of each token, one after another.
+fn told_all(alloc: Global, tokens: &[&Token]) -> Result<String, AllocError> {
+    let mut text = String::new(alloc);
+    for token in tokens {
+        let line = told(alloc, token)?;
+        text.push_str(line.as_str())?;
+        text.push_str("; ")?;
+    }
+    Ok(text)
+}
+
+/// What is told of the tokens of a variable that is given a require; nothing where the tree is another.
+fn require_told(alloc: Global, tree: &Tree) -> Result<String, AllocError> {
+    let [Stmt::Vars { word, decls, semi }] = tree.body.as_slice() else {
+        return Ok(String::new(alloc));
+    };
+    let [decl] = decls.as_slice() else {
+        return Ok(String::new(alloc));
+    };
+    let Pattern::Name(name) = &decl.item.target else {
+        return Ok(String::new(alloc));
+    };
+    let Some(init) = &decl.item.init else {
+        return Ok(String::new(alloc));
+    };
+    let Expr::Chain { head, tails } = init.value.get() else {
+        return Ok(String::new(alloc));
+    };
+    let Expr::Name(callee) = head.get() else {
+        return Ok(String::new(alloc));
+    };
+    let [Tail::Call(arguments)] = tails.as_slice() else {
+        return Ok(String::new(alloc));
+    };
+    let [argument] = arguments.items.as_slice() else {
+        return Ok(String::new(alloc));
+    };
+    let Expr::Literal(string) = argument.item.get() else {
+        return Ok(String::new(alloc));
+    };
+    let Some(semi) = semi else {
+        return Ok(String::new(alloc));
+    };
+    told_all(alloc, &[word, name, &init.equals, callee, string, semi])
+}
+
 #[test]
 fn a_require_keeps_its_tokens(rt: HostRuntime) -> Result<(), Fail> {
     let alloc = rt.alloc();
     let tree = read(alloc, "var a =\nrequire('./é') ;")?;
-    let [
-        Stmt::Vars {
-            word,
-            decls,
-            semi: Some(semi),
-        },
-    ] = tree.body.as_slice()
-    else {
-        panic!(&rt; "no variables");
-    };
-    let [decl] = decls.as_slice() else {
-        panic!(&rt; "not one variable");
-    };
-    let (Pattern::Name(name), Some(init)) = (&decl.item.target, &decl.item.init) else {
-        panic!(&rt; "no name");
-    };
-    let Expr::Chain { head, tails } = init.value.get() else {
-        panic!(&rt; "no call");
-    };
-    let (Expr::Name(callee), [Tail::Call(arguments)]) = (head.get(), tails.as_slice()) else {
-        panic!(&rt; "no require");
-    };
-    let [argument] = arguments.items.as_slice() else {
-        panic!(&rt; "not one argument");
-    };
-    let Expr::Literal(string) = argument.item.get() else {
-        panic!(&rt; "no string");
-    };
-    assert_eq!(rt; told(alloc, word)?.as_str(), "var 0 Word false");
-    assert_eq!(rt; told(alloc, name)?.as_str(), "a 4 Name false");
-    assert_eq!(rt; told(alloc, &init.equals)?.as_str(), "= 6 Punct false");
-    assert_eq!(rt; told(alloc, callee)?.as_str(), "require 8 Name true");
-    assert_eq!(rt; told(alloc, string)?.as_str(), "'./é' 16 Str false");
-    assert_eq!(rt; told(alloc, semi)?.as_str(), "; 24 Punct false");
-    assert!(rt; argument.comma.is_none());
-    assert!(rt; decl.comma.is_none());
+    assert_eq!(rt;
+        require_told(alloc, &tree)?.as_str(),
+        "var 0 Word false; a 4 Name false; = 6 Punct false; require 8 Name true; './é' 16 Str false; ; 24 Punct false; "
+    );
     Ok(())
+}
+
+/// What is told of the tokens of an assignment of a function without a name; nothing where the tree is another.
+fn assignment_told(alloc: Global, tree: &Tree) -> Result<String, AllocError> {
+    let [Stmt::Plain { value, .. }] = tree.body.as_slice() else {
+        return Ok(String::new(alloc));
+    };
+    let Expr::Assign { target, op, value } = value else {
+        return Ok(String::new(alloc));
+    };
+    let Pattern::Member { chain } = target.get() else {
+        return Ok(String::new(alloc));
+    };
+    let Expr::Chain { head, tails } = chain.get() else {
+        return Ok(String::new(alloc));
+    };
+    let Expr::Name(object) = head.get() else {
+        return Ok(String::new(alloc));
+    };
+    let [Tail::Member { dot, name }] = tails.as_slice() else {
+        return Ok(String::new(alloc));
+    };
+    let Expr::Fun { function } = value.get() else {
+        return Ok(String::new(alloc));
+    };
+    let Function::Keyword {
+        word,
+        name: None,
+        ..
+    } = function.get()
+    else {
+        return Ok(String::new(alloc));
+    };
+    told_all(alloc, &[object, dot, name, op, word])
 }
 
 #[test]
 fn an_assignment_keeps_its_tokens(rt: HostRuntime) -> Result<(), Fail> {
     let alloc = rt.alloc();
     let tree = read(alloc, "exports.x =\nfunction(){f();};")?;
-    let [Stmt::Plain { value, .. }] = tree.body.as_slice() else {
-        panic!(&rt; "no expression");
-    };
-    let Expr::Assign { target, op, value } = value else {
-        panic!(&rt; "no assignment");
-    };
-    let Pattern::Member { chain } = target.get() else {
-        panic!(&rt; "no member");
-    };
-    let Expr::Chain { head, tails } = chain.get() else {
-        panic!(&rt; "no chain");
-    };
-    let (Expr::Name(object), [Tail::Member { dot, name }]) = (head.get(), tails.as_slice()) else {
-        panic!(&rt; "no object");
-    };
-    let Expr::Fun { function } = value.get() else {
-        panic!(&rt; "no function");
-    };
-    let Function::Keyword {
-        word,
-        name: None,
-        body,
-        ..
-    } = function.get()
-    else {
-        panic!(&rt; "a name");
-    };
-    assert_eq!(rt; told(alloc, object)?.as_str(), "exports 0 Name false");
-    assert_eq!(rt; told(alloc, dot)?.as_str(), ". 7 Punct false");
-    assert_eq!(rt; told(alloc, name)?.as_str(), "x 8 Name false");
-    assert_eq!(rt; told(alloc, op)?.as_str(), "= 10 Punct false");
-    assert_eq!(rt; told(alloc, word)?.as_str(), "function 12 Word true");
-    assert_eq!(rt; body.body.len(), 1);
+    assert_eq!(rt;
+        assignment_told(alloc, &tree)?.as_str(),
+        "exports 0 Name false; . 7 Punct false; x 8 Name false; = 10 Punct false; function 12 Word true; "
+    );
     Ok(())
 }
