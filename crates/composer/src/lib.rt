@@ -21,3 +21,6 @@ pub use call_graph::{Graph, compose};
 pub use law::{least_solution, one_edge_list, plain_module};
 pub use plain::plain_edges;
 pub use system::{Arrow, CallSite, Callable, System};
+
+#[cfg(test)]
+mod tests;
