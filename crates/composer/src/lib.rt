@@ -17,3 +17,6 @@ pub use application::{Link, ModuleVertex, Value};
 pub use call_graph::{Graph, compose};
 pub use law::{least_solution, one_edge_list};
 pub use system::{Arrow, CallSite, Callable, System};
+
+#[cfg(test)]
+mod tests;
