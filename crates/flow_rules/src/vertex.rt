@@ -1,12 +1,13 @@
 //! Places that values come to.
-ghost use Rattle.std.specs.Prelude.{◌≡◌, refl, slice_index};
+ghost use Rattle.std.specs.Prelude.{◌≡◌, IfOk, refl, slice_index};
 ghost use Rattle.std.specs.Cmp.{on_total, partial_equiv_from_equiv, partial_order_from_total};
 ghost use Rattle.std.specs.Cmp.Lexicographic.{nat_list_cmp_total};
 ghost use Rattle.std.specs.Ordering.{as_partial_cmp, eq_by_cmp};
 ghost use Rattle.std.proofs.lemmas.Cmp.{eq_by_cmp_equiv};
 ghost use Rattle.flow_rules.specs.Vertices.{name_of, numbers_of, vertex_key, vertex_order};
 
-use jam_base::Text;
+use jam_base::{OutOfMemory, Text};
+use std::alloc::Global;
 use std::cmp::Ordering;
 
 /// A place that values come to. `Prop`, `Elem` and `Global` are one vertex in the whole application,
@@ -50,6 +51,59 @@ pub enum Vertex {
 }
 
 impl Vertex {
+    /// A vertex equal to it.
+    pub fn copy(&self, alloc: Global) -> Result<Vertex, OutOfMemory>
+        ensures { IfOk result (λ made. made ≡ self.now) }
+    {
+        match self {
+            Vertex::Prop(name) => Ok(Vertex::Prop(name.copy(alloc)?)),
+            Vertex::Global(name) => Ok(Vertex::Global(name.copy(alloc)?)),
+            Vertex::Elem => Ok(Vertex::Elem),
+            Vertex::Exports => Ok(Vertex::Exports),
+            Vertex::Param { function, index } => Ok(Vertex::Param {
+                function: *function,
+                index: *index,
+            }),
+            Vertex::Rest { function } => Ok(Vertex::Rest {
+                function: *function,
+            }),
+            Vertex::Ret { function } => Ok(Vertex::Ret {
+                function: *function,
+            }),
+            Vertex::Lit { function } => Ok(Vertex::Lit {
+                function: *function,
+            }),
+            Vertex::Callee { offset, part } => Ok(Vertex::Callee {
+                offset: *offset,
+                part: *part,
+            }),
+            Vertex::Arg {
+                offset,
+                part,
+                index,
+            } => Ok(Vertex::Arg {
+                offset: *offset,
+                part: *part,
+                index: *index,
+            }),
+            Vertex::More { offset, part } => Ok(Vertex::More {
+                offset: *offset,
+                part: *part,
+            }),
+            Vertex::Recv { offset, part } => Ok(Vertex::Recv {
+                offset: *offset,
+                part: *part,
+            }),
+            Vertex::Res { offset, part } => Ok(Vertex::Res {
+                offset: *offset,
+                part: *part,
+            }),
+            Vertex::Req { offset } => Ok(Vertex::Req { offset: *offset }),
+            Vertex::Var { local } => Ok(Vertex::Var { local: *local }),
+            Vertex::Exp { number } => Ok(Vertex::Exp { number: *number }),
+        }
+    }
+
     // The place of its kind among the variants, from 0.
     fn kind(&self) -> u8
         ensures { result ≡ slice_index (vertex_key self.now) 0 }
