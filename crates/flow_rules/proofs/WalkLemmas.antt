@@ -20,7 +20,7 @@ use Rattle.flow_rules.specs.declared.module.ModuleNote.{ModuleNote}
 use Rattle.flow_rules.specs.declared.module.Require.{Require}
 use Rattle.flow_rules.specs.declared.vertex.Vertex.{Vertex}
 use Rattle.flow_rules.specs.declared.vertex.Vertex.TheVariants as vertex
-use Rattle.flow_rules.specs.Flows.{Flowing, flow, token_vertex, name_notes, is_assignment, is_numbered, is_required, first_string, arguments_of, argument_values, all_numbered, all_flows, all_requires, all_notes, call_flows, called_front, chain_notes, chain_requires, declared_notes, expr, expr_step, function_step, head_front, member_front, numbered_calls, pattern_step, plain_front, call_front, slot_step, tails_arguments}
+use Rattle.flow_rules.specs.Flows.{Flowing, flow, token_vertex, name_flows, name_notes, is_assignment, is_numbered, is_required, first_string, arguments_of, argument_values, all_numbered, all_flows, all_requires, all_notes, call_flows, called_front, chain_notes, chain_requires, declared_notes, expr, expr_step, function_step, head_front, member_front, numbered_calls, pattern_step, plain_front, call_front, slot_step, tails_arguments}
 use Rattle.flow_rules.specs.Gathering.{Gathered, Passes, PassesAll, PassesTails, plus, gathered, all_gathered, tails_gathered, calls_behind, declared, head_notes, unnoted, with_flows, with_uses}
 use Rattle.flow_rules.proofs.Laws.{at-Assign, at-Chain, at-Value, at-Literal, at-Name}
 
@@ -50,8 +50,8 @@ plus_nothing g = λ i. record { flows = append-nil g.flows i; requires_ = append
 pub plus_plus : (a b c : Gathered) → plus (plus a b) c ≡ plus a (plus b c)
 plus_plus a b c = λ i. record { flows = append_assoc a.flows b.flows c.flows i; requires_ = append_assoc a.requires_ b.requires_ c.requires_ i; notes = append_assoc a.notes b.notes c.notes i }
 
-uses_only : (g : Gathered) (ns : List ModuleNote) → with_uses g [] ns ≡ plus g (record { flows = []; requires_ = []; notes = ns })
-uses_only g ns = λ i. record { flows = sym (append-nil g.flows) i; requires_ = g.requires_ ++ []; notes = g.notes ++ ns }
+flows_only : (g : Gathered) (fs : List Flow) → with_flows g fs ≡ plus g (record { flows = fs; requires_ = []; notes = [] })
+flows_only g fs = λ i. record { flows = g.flows ++ fs; requires_ = sym (append-nil g.requires_) i; notes = sym (append-nil g.notes) i }
 
 numbered_of : (xs ys : List Flowing) → all_numbered (xs ++ ys) ≡ all_numbered xs + all_numbered ys
 numbered_of [] ys = omega arith
@@ -84,17 +84,17 @@ module _ (known : Known) where
   pub nothing_passes : (n h : ℕ) (t : Token) (g : Gathered) → Passes known n h (expr_step (Expr-F.Literal t)) g g n
   nothing_passes n h t g = record { next_is = omega arith; found = sym (plus_nothing g) }
 
-  pub name_passes : (n h : ℕ) (t : Token) (a b : Gathered) → b ≡ with_uses a [] (name_notes known t) → Passes known n h (expr_step (Expr-F.«Expr::Name» t)) a b n
-  name_passes n h t a b e = record { next_is = omega arith; found = e ∙ uses_only a (name_notes known t) }
+  pub name_passes : (n h : ℕ) (t : Token) (a b c : Gathered) → b ≡ with_flows a (name_flows known t) → c ≡ with_uses b [] (name_notes known t) → Passes known n h (expr_step (Expr-F.«Expr::Name» t)) a c n
+  name_passes n h t a b c f e = record { next_is = omega arith; found = e ∙ ap (λ g. with_uses g [] (name_notes known t)) f }
 
-  pub target_passes : (n h : ℕ) (t : Token) (a b : Gathered) → b ≡ with_uses a [] (name_notes known t) → Passes known n h (pattern_step (Pattern-F.«Pattern::Name» t)) a b n
-  target_passes n h t a b e = record { next_is = omega arith; found = e ∙ uses_only a (name_notes known t) }
+  pub target_passes : (n h : ℕ) (t : Token) (a b c : Gathered) → b ≡ with_flows a (name_flows known t) → c ≡ with_uses b [] (name_notes known t) → Passes known n h (pattern_step (Pattern-F.«Pattern::Name» t)) a c n
+  target_passes n h t a b c f e = record { next_is = omega arith; found = e ∙ ap (λ g. with_uses g [] (name_notes known t)) f }
 
-  pub written_passes : (n h : ℕ) (t : Token) (g : Gathered) → Passes known n h (unnoted (pattern_step (Pattern-F.«Pattern::Name» t))) g g n
-  written_passes n h t g = record { next_is = omega arith; found = sym (plus_nothing g) }
+  pub written_passes : (n h : ℕ) (t : Token) (a b : Gathered) → b ≡ with_flows a (name_flows known t) → Passes known n h (unnoted (pattern_step (Pattern-F.«Pattern::Name» t))) a b n
+  written_passes n h t a b f = record { next_is = omega arith; found = f ∙ flows_only a (name_flows known t) }
 
-  pub head_passes : (n h : ℕ) (t : Token) (g : Gathered) → Passes known n h (unnoted (expr_step (Expr-F.«Expr::Name» t))) g g n
-  head_passes n h t g = record { next_is = omega arith; found = sym (plus_nothing g) }
+  pub head_passes : (n h : ℕ) (t : Token) (a b : Gathered) → b ≡ with_flows a (name_flows known t) → Passes known n h (unnoted (expr_step (Expr-F.«Expr::Name» t))) a b n
+  head_passes n h t a b f = record { next_is = omega arith; found = f ∙ flows_only a (name_flows known t) }
 
   -- of an assignment
   pub assign_passes :

@@ -252,6 +252,15 @@ chain_notes known head tails = elim head.is [
   | t ∷ ts ↦ if is_require (known.binding t.start) then first_notes t.start tails else head.notes known
 ]
 
+-- the flows of a name with this meaning: of `arguments`, what the function takes past its parameters, of which there are none in this grammar, is an element
+abbrev pub arguments_flows : Binding → List Flow
+arguments_flows (binding.Arguments f) = flow (Some (vertex.Rest f)) (Some vertex.Elem)
+arguments_flows _ = []
+
+-- the flows of the name that is this token
+abbrev pub name_flows : Known → Token → List Flow
+name_flows known t = arguments_flows (known.binding t.start)
+
 -- the note on a use of a name as a value
 abbrev pub name_notes : Known → Token → List ModuleNote
 name_notes known t = if is_require (known.binding t.start) then record { offset = t.start; kind = note.RequireValue } ∷ [] else []
@@ -265,7 +274,7 @@ abbrev pub own_flows : Known → Flowing → List Flow
 own_flows known function = flat_map (λ t. flow (function.value known 0) (token_vertex known t)) function.own_name
 
 -- Assign: with `=` the value comes to the target. Chain: its calls, one after another. Fun: the function, which comes to its own name. Literal: none.
--- Name: its vertex; `require` as a value is noted
+-- Name: its vertex; `arguments` has a flow, and `require` as a value is noted
 abbrev pub expr_step : Expr-F Flowing Flowing Flowing Flowing Flowing → Flowing
 expr_step (Expr-F.Assign target op value) = record {
   is = [];
@@ -322,7 +331,7 @@ expr_step (Expr-F.«Expr::Name» t) = record {
   own_name = [];
   numbered = 0;
   value = λ known n. token_vertex known t;
-  flows = λ known n. [];
+  flows = λ known n. name_flows known t;
   into = λ known n. None;
   requires_ = λ known holder. [];
   notes = λ known. name_notes known t;
@@ -350,7 +359,7 @@ pattern_step (Pattern-F.«Pattern::Name» t) = record {
   own_name = [];
   numbered = 0;
   value = λ known n. None;
-  flows = λ known n. [];
+  flows = λ known n. name_flows known t;
   into = λ known n. token_vertex known t;
   requires_ = λ known holder. [];
   notes = λ known. name_notes known t;
@@ -442,13 +451,9 @@ stmt = fold-Stmt Flowing Flowing Flowing Flowing Flowing expr_step function_step
 unfoldable pub slot : Slot → Flowing
 slot = fold-Slot Flowing Flowing Flowing Flowing Flowing expr_step function_step pattern_step stmt_step slot_step
 
--- a use of `arguments`: what a function takes past its parameters, of which there are none in this grammar, is an element
-abbrev pub arguments_flows : BoundName → List Flow
-arguments_flows name = elim name.binding [ binding.Arguments f ↦ flow (Some (vertex.Rest f)) (Some vertex.Elem) | _ ↦ [] ]
-
 -- the flows of a tree, one after another
 abbrev pub flows_of : Tree → List Flow
-flows_of tree = flat_map arguments_flows (names_of tree) ++ all_flows (map stmt tree.body) (known_of tree) 0
+flows_of tree = all_flows (map stmt tree.body) (known_of tree) 0
 
 -- requires go by their offset, and so do notes
 abbrev pub require_order : Require → Require → Ordering

@@ -3,12 +3,12 @@ ghost use Rattle.std.specs.Prelude.{◌≡◌, [], ◌∷◌, IfOk, OnOk, Some, 
 ghost use Rattle.std.specs.Option.{IfSome};
 ghost use Rattle.js_tree.proofs.Folds.{map_tail};
 ghost use Rattle.js_scopes.specs.Scopes as scopes;
-ghost use Rattle.flow_rules.specs.Flows.{expr, call_notes, call_requires, chain_requires, first_notes, first_requires, first_string, is_module, name_notes};
-ghost use Rattle.flow_rules.specs.Gathering.{known_in, seen_arguments, seen_tails, with_uses};
+ghost use Rattle.flow_rules.specs.Flows.{expr, call_notes, call_requires, chain_requires, first_notes, first_requires, first_string, is_module, name_flows, name_notes, arguments_flows};
+ghost use Rattle.flow_rules.specs.Gathering.{known_in, seen_arguments, seen_tails, with_flows, with_uses};
 
-use crate::NoteKind;
 use crate::facts::Facts;
 use crate::found::Found;
+use crate::{NoteKind, Vertex};
 use jam_base::{OutOfMemory, Text};
 use js_scopes::{Binding, WrapperName};
 use js_tree::{Expr, Listed, Tail, Token, TokenClass};
@@ -38,6 +38,34 @@ pub(crate) fn is_module(binding: Binding) -> bool
         Binding::Local(_) => false,
         Binding::Arguments(_) => false,
         Binding::Global => false,
+    }
+}
+
+/// The flow of a name that means the arguments of a function: what that takes past its parameters is an
+/// element.
+pub(crate) fn push_name_flows(
+    alloc: Global,
+    facts: &Facts,
+    token: &Token,
+    out: &mut Found,
+) -> Result<(), OutOfMemory>
+    ensures { OnOk result (out.new ≡ with_flows out.old (name_flows (known_in facts.now) token.now)) }
+{
+    push_arguments_flow(alloc, facts.binding(token), out)
+}
+
+// The flow of a name with this meaning.
+fn push_arguments_flow(alloc: Global, binding: Binding, out: &mut Found) -> Result<(), OutOfMemory>
+    ensures { OnOk result (out.new ≡ with_flows out.old (arguments_flows binding)) }
+{
+    match binding {
+        Binding::Local(_) => Ok(()),
+        Binding::Wrapper(_) => Ok(()),
+        Binding::Arguments(function) => {
+            let rest = Some(Vertex::Rest { function });
+            out.flow(alloc, &rest, Vertex::Elem)
+        }
+        Binding::Global => Ok(()),
     }
 }
 

@@ -14,7 +14,7 @@ use crate::found::Found;
 use crate::front::{Front, is_numbered, member_front, plain_front};
 use crate::heads::{called_front, name_front, push_head_uses};
 use crate::numbers::{add, calls_behind, calls_left};
-use crate::uses::{has_string, push_name_note};
+use crate::uses::{has_string, push_name_flows, push_name_note};
 use jam_base::OutOfMemory;
 use js_tree::{Expr, Function, Listed, Pattern, Slot, Stmt, Tail, Token};
 use sqlite_items::Boxed;
@@ -198,10 +198,13 @@ fn walk_declared(
     ensures into { IfOk result (λ w. w.value ≡ (seen.pattern pattern.now).into (known_in facts.now) n) }
 {
     match pattern {
-        Pattern::Name(token) => Ok(Walked {
-            next: n,
-            value: facts.vertex(alloc, token)?,
-        }),
+        Pattern::Name(token) => {
+            push_name_flows(alloc, facts, token, out)?;
+            Ok(Walked {
+                next: n,
+                value: facts.vertex(alloc, token)?,
+            })
+        }
         Pattern::Member { chain } => {
             let walked = walk_expr(alloc, facts, chain.get(), n, holder, out)?;
             Ok(Walked {
@@ -227,6 +230,7 @@ fn walk_pattern(
 {
     match pattern {
         Pattern::Name(token) => {
+            push_name_flows(alloc, facts, token, out)?;
             push_name_note(facts, token, out)?;
             Ok(Walked {
                 next: n,
@@ -298,6 +302,7 @@ fn walk_expr(
             value: None,
         }),
         Expr::Name(token) => {
+            push_name_flows(alloc, facts, token, out)?;
             push_name_note(facts, token, out)?;
             Ok(Walked {
                 next: n,
@@ -367,10 +372,13 @@ fn walk_head(
                 front: plain_front(walked.value),
             })
         }
-        Expr::Name(token) => Ok(WalkedHead {
-            next: n,
-            front: name_front(alloc, facts, token)?,
-        }),
+        Expr::Name(token) => {
+            push_name_flows(alloc, facts, token, out)?;
+            Ok(WalkedHead {
+                next: n,
+                front: name_front(alloc, facts, token)?,
+            })
+        }
     }
 }
 

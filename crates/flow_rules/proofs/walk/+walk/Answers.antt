@@ -125,7 +125,7 @@ walk_declared-returns-in_ok-vertex-in-Name-clause-passes t c =
     let n : ℕ = c.args.n in
     let h : ℕ = c.args.holder in
     let law = ap seen.pattern c.in-Name.is ∙ at-Target c.in-Name.token in
-    subst (λ (s : Flowing). Passes known n h (unnoted s) c.args.out.now c.args.out.now n) (sym law) (written_passes known n h c.in-Name.token c.args.out.now)
+    subst (λ (s : Flowing). Passes known n h (unnoted s) c.args.out.now c.push_name_flows.new.out n) (sym law) (written_passes known n h c.in-Name.token c.args.out.now c.push_name_flows.new.out c.in_ok-push_name_flows-in-Name.ensures)
 
 pub walk_declared-returns-in_ok-vertex-in-Name-clause-into : goal.walk_declared-returns-in_ok-vertex-in-Name-clause-into
 walk_declared-returns-in_ok-vertex-in-Name-clause-into t c =
@@ -161,7 +161,7 @@ walk_pattern-returns-in_ok-vertex-in-Name-clause-passes t c =
     let n : ℕ = c.args.n in
     let h : ℕ = c.args.holder in
     let law = ap seen.pattern c.in-Name.is ∙ at-Target c.in-Name.token in
-    subst (λ (s : Flowing). Passes known n h (s) c.args.out.now c.push_name_note.new.out n) (sym law) (target_passes known n h c.in-Name.token c.args.out.now c.push_name_note.new.out c.in_ok-push_name_note-in-Name.ensures)
+    subst (λ (s : Flowing). Passes known n h (s) c.args.out.now c.push_name_note.new.out n) (sym law) (target_passes known n h c.in-Name.token c.args.out.now c.push_name_flows.new.out c.push_name_note.new.out c.in_ok-push_name_flows-in-Name.ensures c.in_ok-push_name_note-in-Name.ensures)
 
 pub walk_pattern-returns-in_ok-vertex-in-Name-clause-into : goal.walk_pattern-returns-in_ok-vertex-in-Name-clause-into
 walk_pattern-returns-in_ok-vertex-in-Name-clause-into t c =
@@ -306,7 +306,7 @@ walk_expr-returns-in_ok-vertex-in-Name-clause-passes t c =
     let n : ℕ = c.args.n in
     let h : ℕ = c.args.holder in
     let law = ap seen.expr c.in-Name.is ∙ at-Name c.in-Name.token in
-    passes_at known n h _ _ c.args.out.now c.push_name_note.new.out n law (name_passes known n h c.in-Name.token c.args.out.now c.push_name_note.new.out c.in_ok-push_name_note-in-Name.ensures)
+    passes_at known n h _ _ c.args.out.now c.push_name_note.new.out n law (name_passes known n h c.in-Name.token c.args.out.now c.push_name_flows.new.out c.push_name_note.new.out c.in_ok-push_name_flows-in-Name.ensures c.in_ok-push_name_note-in-Name.ensures)
 
 pub walk_expr-returns-in_ok-vertex-in-Name-clause-value : goal.walk_expr-returns-in_ok-vertex-in-Name-clause-value
 walk_expr-returns-in_ok-vertex-in-Name-clause-value t c =
@@ -409,7 +409,7 @@ walk_head-returns-in_ok-name_front-in-Name-clause-passes t c =
     let n : ℕ = c.args.n in
     let h : ℕ = c.args.holder in
     let law = ap seen.expr c.in-Name.is ∙ at-Name c.in-Name.token in
-    subst (λ (s : Flowing). Passes known n h (unnoted s) c.args.out.now c.args.out.now n) (sym law) (head_passes known n h c.in-Name.token c.args.out.now)
+    subst (λ (s : Flowing). Passes known n h (unnoted s) c.args.out.now c.push_name_flows.new.out n) (sym law) (head_passes known n h c.in-Name.token c.args.out.now c.push_name_flows.new.out c.in_ok-push_name_flows-in-Name.ensures)
 
 pub walk_head-returns-in_ok-name_front-in-Name-clause-front : goal.walk_head-returns-in_ok-name_front-in-Name-clause-front
 walk_head-returns-in_ok-name_front-in-Name-clause-front t c =
