@@ -5,7 +5,9 @@ use Rattle.std.specs.declared.cmp.Ordering.TheVariants.{Less, Equal, Greater}
 use Rattle.std.specs.Prelude.{slice_index}
 use Rattle.std.specs.Cmp.{IsTotalOrder, on_total, then_total}
 use Rattle.std.specs.Cmp.Lexicographic.{slice_cmp, nat_list_cmp_total}
-use Rattle.std.specs.Ordering.{ordering_then, nat_cmp, MatchOrdering}
+use Rattle.std.specs.Ordering.{ordering_then, nat_cmp, eq_by_cmp, MatchOrdering}
+use Rattle.std.specs.Str.{bytes_eq}
+use Rattle.std.proofs.lemmas.Map.Text.{is_eq-slice_cmp}
 use Rattle.std.proofs.lemmas.Cmp.{ranked}
 use Rattle.std.proofs.lemmas.Map.Lookups.{exact_bytes}
 use Rattle.flow_rules.specs.declared.module.Flow.{Flow}
@@ -175,3 +177,7 @@ one_flow f g e =
     let from = one_vertex f.from g.from (exact_bytes (vertex_key f.from) (vertex_key g.from) b.0) in
     let to = one_vertex f.to g.to (exact_bytes (vertex_key f.to) (vertex_key g.to) b.1) in
     λ i. record { from = from i; to = to i }
+
+-- two vertices that the order doesn't tell apart have one key
+pub same_key : (u v : Vertex) → eq_by_cmp vertex_order u v ≡ bytes_eq (vertex_key u) (vertex_key v)
+same_key u v = is_eq-slice_cmp (vertex_key u) (vertex_key v)

@@ -21,6 +21,7 @@ use Rattle.js_scopes.specs.declared.binding.Binding.TheVariants as binding
 use Rattle.js_scopes.specs.declared.binding.WrapperName.TheVariants as wrapper
 use Rattle.js_scopes.specs.Ascending.{ascending}
 use Rattle.js_scopes.specs.Scopes.{BoundName, Known, name_list, string_of, is_require, is_reflected, names_of, functions_of, sites_of, known_of}
+use Rattle.flow_rules.specs.declared.front.Front.{Front}
 use Rattle.flow_rules.specs.declared.module.Flow.{Flow}
 use Rattle.flow_rules.specs.declared.module.ModuleNote.{ModuleNote}
 use Rattle.flow_rules.specs.declared.module.NoteKind.TheVariants as note
@@ -99,15 +100,6 @@ abbrev pub first_string : List Flowing → Option (List ℕ)
 first_string [] = None
 first_string (x ∷ xs) = x.string
 
--- what a chain is up to one of its tails: where its values stand; where those of the object stand and which member of it this is, where it ends
--- in a member; and whether it is directly the wrapper's `require` or `module`
-pub record Front : Type 0 where
-  pub value : Option Vertex
-  pub object : Option Vertex
-  pub member : Option (List ℕ)
-  pub is_require : Bool
-  pub is_module : Bool
-
 -- the values of an expression that is no member, at a vertex or none
 abbrev pub plain_front : Option Vertex → Front
 plain_front value = record { value = value; object = None; member = None; is_require = false; is_module = false }
@@ -119,10 +111,15 @@ head_front known n head = elim head.is [
   | t ∷ ts ↦ record { value = head.value known n; object = None; member = None; is_require = is_require (known.binding t.start); is_module = is_module (known.binding t.start) }
 ]
 
--- a member of what is in front: `module.exports` is what the module exports, every other member of one name is one property
+-- where the values of a member of this name stand, of the wrapper's `module` or not: `module.exports` is what the module exports, every other
+-- member of one name is one property
+abbrev pub member_vertex : Bool → List ℕ → Vertex
+member_vertex of_module name = if of_module && bytes_eq name (codes "exports") then vertex.Exports else vertex.Prop name
+
+-- a member of what is in front
 abbrev pub member_front : Front → List ℕ → Front
 member_front front name = record {
-  value = Some (if front.is_module && bytes_eq name (codes "exports") then vertex.Exports else vertex.Prop name);
+  value = Some (member_vertex front.is_module name);
   object = front.value;
   member = Some name;
   is_require = false;
@@ -212,8 +209,8 @@ tails_flows known n m front (tail.Member dot name ∷ tails) = tails_flows known
 tails_flows known n m front (tail.Call a ∷ tails) =
     let arguments : List Flowing = arguments_of a.items in
     let k : ℕ = n + numbered_calls None tails in
-    (if is_required front arguments then [] else call_flows a.open.start k front (argument_values known m arguments))
-    ++ all_flows arguments known m
+    all_flows arguments known m
+    ++ (if is_required front arguments then [] else call_flows a.open.start k front (argument_values known m arguments))
     ++ tails_flows known n (m + all_numbered arguments) (called_front a.open.start k front arguments) tails
 
 -- the requires of a call that is directly one of `require`, by the function around it
@@ -255,6 +252,15 @@ chain_notes known head tails = elim head.is [
   | t ∷ ts ↦ if is_require (known.binding t.start) then first_notes t.start tails else head.notes known
 ]
 
+-- the flows of a name with this meaning: of `arguments`, what the function takes past its parameters, of which there are none in this grammar, is an element
+abbrev pub arguments_flows : Binding → List Flow
+arguments_flows (binding.Arguments f) = flow (Some (vertex.Rest f)) (Some vertex.Elem)
+arguments_flows _ = []
+
+-- the flows of the name that is this token
+abbrev pub name_flows : Known → Token → List Flow
+name_flows known t = arguments_flows (known.binding t.start)
+
 -- the note on a use of a name as a value
 abbrev pub name_notes : Known → Token → List ModuleNote
 name_notes known t = if is_require (known.binding t.start) then record { offset = t.start; kind = note.RequireValue } ∷ [] else []
@@ -268,7 +274,7 @@ abbrev pub own_flows : Known → Flowing → List Flow
 own_flows known function = flat_map (λ t. flow (function.value known 0) (token_vertex known t)) function.own_name
 
 -- Assign: with `=` the value comes to the target. Chain: its calls, one after another. Fun: the function, which comes to its own name. Literal: none.
--- Name: its vertex; `require` as a value is noted
+-- Name: its vertex; `arguments` has a flow, and `require` as a value is noted
 abbrev pub expr_step : Expr-F Flowing Flowing Flowing Flowing Flowing → Flowing
 expr_step (Expr-F.Assign target op value) = record {
   is = [];
@@ -277,8 +283,8 @@ expr_step (Expr-F.Assign target op value) = record {
   numbered = target.numbered + value.numbered;
   value = λ known n. if is_assignment op then value.value known (n + target.numbered) else None;
   flows = λ known n.
-      (if is_assignment op then flow (value.value known (n + target.numbered)) (target.into known n) else [])
-      ++ target.flows known n ++ value.flows known (n + target.numbered);
+      target.flows known n ++ value.flows known (n + target.numbered)
+      ++ (if is_assignment op then flow (value.value known (n + target.numbered)) (target.into known n) else []);
   into = λ known n. None;
   requires_ = λ known holder. target.requires_ known holder ++ value.requires_ known holder;
   notes = λ known. target.notes known ++ value.notes known;
@@ -325,7 +331,7 @@ expr_step (Expr-F.«Expr::Name» t) = record {
   own_name = [];
   numbered = 0;
   value = λ known n. token_vertex known t;
-  flows = λ known n. [];
+  flows = λ known n. name_flows known t;
   into = λ known n. None;
   requires_ = λ known holder. [];
   notes = λ known. name_notes known t;
@@ -353,7 +359,7 @@ pattern_step (Pattern-F.«Pattern::Name» t) = record {
   own_name = [];
   numbered = 0;
   value = λ known n. None;
-  flows = λ known n. [];
+  flows = λ known n. name_flows known t;
   into = λ known n. token_vertex known t;
   requires_ = λ known holder. [];
   notes = λ known. name_notes known t;
@@ -390,8 +396,8 @@ slot_step slot =
       numbered = slot.target.numbered + all_numbered inits;
       value = λ known n. None;
       flows = λ known n.
-          flat_map (λ (x : Flowing). flow (x.value known (n + slot.target.numbered)) (slot.target.into known n)) inits
-          ++ slot.target.flows known n ++ all_flows inits known (n + slot.target.numbered);
+          slot.target.flows known n ++ all_flows inits known (n + slot.target.numbered)
+          ++ flat_map (λ (x : Flowing). flow (x.value known (n + slot.target.numbered)) (slot.target.into known n)) inits;
       into = λ known n. None;
       requires_ = λ known holder. slot.target.requires_ known holder ++ all_requires inits known holder;
       notes = λ known. declared_notes known slot.target ++ all_notes inits known;
@@ -445,13 +451,9 @@ stmt = fold-Stmt Flowing Flowing Flowing Flowing Flowing expr_step function_step
 unfoldable pub slot : Slot → Flowing
 slot = fold-Slot Flowing Flowing Flowing Flowing Flowing expr_step function_step pattern_step stmt_step slot_step
 
--- a use of `arguments`: what a function takes past its parameters, of which there are none in this grammar, is an element
-abbrev pub arguments_flows : BoundName → List Flow
-arguments_flows name = elim name.binding [ binding.Arguments f ↦ flow (Some (vertex.Rest f)) (Some vertex.Elem) | _ ↦ [] ]
-
 -- the flows of a tree, one after another
 abbrev pub flows_of : Tree → List Flow
-flows_of tree = flat_map arguments_flows (names_of tree) ++ all_flows (map stmt tree.body) (known_of tree) 0
+flows_of tree = all_flows (map stmt tree.body) (known_of tree) 0
 
 -- requires go by their offset, and so do notes
 abbrev pub require_order : Require → Require → Ordering

@@ -1,3 +1,4 @@
 pub mod Constraints
 pub mod Flows
+pub mod Gathering
 pub mod Vertices
