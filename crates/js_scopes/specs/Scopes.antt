@@ -19,16 +19,12 @@ use Rattle.js_tree.specs.declared.tree.Tail.TheVariants as tail
 use Rattle.js_tree.specs.declared.tree.Tree.{Tree}
 use Rattle.js_scopes.specs.declared.binding.Binding.{Binding}
 use Rattle.js_scopes.specs.declared.binding.Binding.TheVariants as binding
+use Rattle.js_scopes.specs.declared.binding.BoundName.{BoundName}
 use Rattle.js_scopes.specs.declared.binding.WrapperName.TheVariants as wrapper
 use Rattle.js_scopes.specs.declared.function.FunctionInfo.{FunctionInfo}
 use Rattle.js_scopes.specs.declared.site.SiteInfo.{SiteInfo}
 use Rattle.js_scopes.specs.Ascending.{ascending}
 use Rattle.js_scopes.specs.Names.{Scope, Numbering, Around, firsts, function_number, wrapper_name, binding_at}
-
--- a name that a tree uses or declares: the offset of its token, and what it means there
-pub record BoundName : Type 0 where
-  pub start : ℕ
-  pub binding : Binding
 
 -- what is known of a module: what the name at an offset means, and the number of the function that starts at an offset
 pub record Known : Type 0 where

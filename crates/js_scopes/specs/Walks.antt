@@ -1,17 +1,19 @@
 -- What a walk over the lists of a tree gathers.
-use Rattle.std.specs.Prelude.{ℕ, List, [], ◌∷◌, map, Option, Some, None}
+use Rattle.std.specs.Prelude.{ℕ, List, [], ◌++◌, ◌∷◌, map, is_some, if◌then◌else◌, Option, Some, None}
 use Rattle.std.specs.Borrow.{Bor}
 use Rattle.std.specs.List.{flat_map}
 use Rattle.js_tree.specs.declared.token.Token.{Token}
 use Rattle.js_tree.specs.declared.tree.Expr.{Expr}
+use Rattle.js_tree.specs.declared.tree.Function.{Function}
 use Rattle.js_tree.specs.declared.tree.Init.{Init}
 use Rattle.js_tree.specs.declared.tree.Listed.{Listed}
 use Rattle.js_tree.specs.declared.tree.Slot.{Slot}
 use Rattle.js_tree.specs.declared.tree.Stmt.{Stmt}
 use Rattle.js_tree.specs.declared.tree.Tail.{Tail}
 use Rattle.js_tree.specs.declared.tree.Tail.TheVariants as tail
-use Rattle.js_scopes.specs.Names.{Scope}
-use Rattle.js_scopes.specs.Scopes.{Scoped, anonymous, expr, stmt, slot}
+use Rattle.js_tree.specs.declared.tree.Tree.{Tree}
+use Rattle.js_scopes.specs.Names.{Scope, firsts, first_in}
+use Rattle.js_scopes.specs.Scopes.{Scoped, anonymous, expr, function, stmt, slot}
 
 -- the arguments in a tail
 abbrev pub tail_items : Tail Expr → List (Listed Expr)
@@ -51,3 +53,23 @@ one_token t = t ∷ []
 -- scopes, each as the tokens that declare in it
 abbrev pub scopes_of : List (Bor (List (Bor Token))) → List Scope
 scopes_of scopes = map (λ s. map (λ t. t.now) s.now) scopes
+
+-- where the names that a scope declares are first declared
+abbrev pub scope_starts : Scope → List ℕ
+scope_starts scope = map (λ (t : Token). t.start) (firsts scope)
+
+-- the same of the scopes that a node makes
+abbrev pub first_starts : Scoped → List ℕ
+first_starts s = flat_map scope_starts s.scopes
+
+-- the same of a function that is a value, with the scope of its own name
+abbrev pub value_starts_of : Function → List ℕ
+value_starts_of f = scope_starts (function f).own_name ++ first_starts (function f)
+
+-- the same of a tree whose body has this scope
+abbrev pub local_starts : Scope → Tree → List ℕ
+local_starts scope tree = scope_starts scope ++ in_stmts first_starts tree.body
+
+-- where a token stands, unless a token before it declares the name
+abbrev pub first_start : Token → Scope → List ℕ
+first_start t before = if is_some (first_in t.text before) then [] else t.start ∷ []

@@ -12,6 +12,8 @@ mod numbers;
 mod order;
 mod scope;
 mod site;
+mod starts;
+mod walk;
 
 pub use binding::{Binding, WrapperName};
 pub use bindings::Bindings;

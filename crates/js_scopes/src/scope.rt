@@ -34,7 +34,7 @@ fn push_declared<'t>(
     ensures { OnOk result (map (λ t. t.now) scope.new.items ≡ map (λ t. t.now) scope.old.items ++ (seen.stmt statement.now).declares in_module) }
 {
     match statement {
-        Stmt::Fun { function } => push_name(own_name(function.get()), scope),
+        Stmt::Fun { function } => push_token(own_name(function.get()), scope),
         Stmt::Plain { value: _, semi: _ } => Ok(()),
         Stmt::Vars {
             word: _,
@@ -45,7 +45,10 @@ fn push_declared<'t>(
 }
 
 // Adds the name, where there is one.
-fn push_name<'t>(name: Option<&'t Token>, scope: &mut Vec<&'t Token>) -> Result<(), OutOfMemory>
+pub(crate) fn push_token<'t>(
+    name: Option<&'t Token>,
+    scope: &mut Vec<&'t Token>,
+) -> Result<(), OutOfMemory>
     ensures { OnOk result (map (λ t. t.now) scope.new.items ≡ map (λ t. t.now) scope.old.items ++ seen.name_list (option_map (λ t. t.now) name.entry)) }
 {
     if let Some(name) = name {
@@ -63,7 +66,7 @@ fn push_variables<'t>(
     ensures { OnOk result (map (λ t. t.now) scope.new.items ≡ map (λ t. t.now) scope.old.items ++ seen.declared_by_var in_module (in_slots (λ x. x.declares in_module) slots.now)) }
 {
     for listed in slots {
-        push_name(variable(&listed.item.target, in_module), scope)?;
+        push_token(variable(&listed.item.target, in_module), scope)?;
     }
     Ok(())
 }
@@ -106,7 +109,7 @@ pub(crate) fn own_name(function: &Function) -> Option<&Token>
 }
 
 // The offset of the first token of the scope that is the name.
-fn first_in(name: &str, scope: &[&Token]) -> Option<u32>
+pub(crate) fn first_in(name: &str, scope: &[&Token]) -> Option<u32>
     ensures { result ≡ option_map (λ t. t.start) (names.first_in name.now (map (λ t. t.now) scope.now)) }
 {
     for token in scope {

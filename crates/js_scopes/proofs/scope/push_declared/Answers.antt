@@ -9,9 +9,9 @@ use Rattle.js_scopes.proofs.scope.push_declared.Goals as goal
 
 pub returns-in-Fun : goal.returns-in-Fun
 returns-in-Fun c =
-    on_ok_weaker c.push_name.result
+    on_ok_weaker c.push_token.result
     (λ h. h ∙ ap (λ xs. map (λ t. t.now) c.args.scope.now.items ++ xs) (c.own_name.ensures ∙ ap (λ f. (seen.function f).own_name) c.get.ensures ∙ sym (ap (λ (s : Scoped). s.declares c.args.in_module) (ap seen.stmt c.in-Fun.is ∙ at-Fun c.in-Fun.function))))
-    c.push_name.ensures
+    c.push_token.ensures
 
 pub returns-in-Plain : goal.returns-in-Plain
 returns-in-Plain c =

@@ -29,10 +29,10 @@ loop-listed-preserved c =
     let m = c.args.in_module in
     let old = map (λ t. t.now) c.args.scope.now.items in
     let f = λ (x : Listed Slot). (slot x.item).declares m in
-    pushed_more (λ (x : Listed Slot). declared_by_var m (f x)) old (map (λ t. t.now) c.loop-listed.scope.items) (map (λ t. t.now) c.push_name.new.scope.items) c.args.slots.now c.loop-listed.listed-index c.listed-item.result
+    pushed_more (λ (x : Listed Slot). declared_by_var m (f x)) old (map (λ t. t.now) c.loop-listed.scope.items) (map (λ t. t.now) c.push_token.new.scope.items) c.args.slots.now c.loop-listed.listed-index c.listed-item.result
     c.loop-listed-test.true
     (c.loop-listed.invariant ∙ ap (λ xs. old ++ xs) (each m f _))
-    (c.in_ok-push_name.ensures {u = tt}
+    (c.in_ok-push_token.ensures {u = tt}
     ∙ ap (λ xs. map (λ t. t.now) c.loop-listed.scope.items ++ xs) (
     c.variable.ensures
     ∙ ap (λ (s : Scoped). declared_by_var m (s.declares m)) (sym (at-Slot c.listed-item.result.item))
