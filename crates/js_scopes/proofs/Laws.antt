@@ -28,7 +28,7 @@ use Rattle.js_scopes.specs.Scopes.{Scoped, anonymous, items_of, in_tail, last_me
 use Rattle.js_scopes.specs.Walks.{tail_gives, in_items, in_tails, in_init, in_slots, in_stmts}
 
 module _ {A : Type 0} (g : Scoped → List A) where
-  items-map : (xs : List (Listed Expr)) → flat_map g (map (λ x. x.item) (map (map_listed expr) xs)) ≡ in_items g xs
+  pub items-map : (xs : List (Listed Expr)) → flat_map g (map (λ x. x.item) (map (map_listed expr) xs)) ≡ in_items g xs
   items-map [] = refl
   items-map (x ∷ xs) = ap (λ ys. g (expr x.item) ++ ys) (items-map xs)
 

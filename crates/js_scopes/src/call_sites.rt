@@ -9,8 +9,8 @@ ghost use Rattle.js_scopes.specs.Scopes as seen;
 ghost use Rattle.js_scopes.specs.Walks.{in_items, in_slots, in_stmts};
 
 use crate::bindings::Bindings;
-use crate::calls::{has_string, push_call_sites};
-use crate::function::functions;
+use crate::calls::{is_required, push_own_sites};
+use crate::function::inner_functions;
 use crate::known::Known;
 use crate::order::ascending;
 use crate::site::SiteInfo;
@@ -24,14 +24,11 @@ pub fn sites(alloc: Global, tree: &Tree, bindings: &Bindings) -> Result<List<Sit
     requires { (start : ℕ) → meaning_in bindings.now start ≡ binding_of tree.now start }
     ensures { IfOk result (λ made. made ≡ sites_of tree.now) }
 {
-    let functions = functions(alloc, tree)?;
-    let Some((_, inner)) = functions.as_slice().split_first() else {
-        return Ok(List::of(Vec::new(alloc)));
-    };
-    if inner.len() >= 4294967295 {
+    let functions = inner_functions(alloc, tree)?;
+    if functions.len() >= 4294967295 {
         return Err(OutOfMemory);
     }
-    let known = Known::of(bindings, inner);
+    let known = Known::of(bindings, functions.as_slice());
     let mut out = Vec::new(alloc);
     push_stmts(&known, 0, tree.body.as_slice(), &mut out)?;
     let out = ascending(alloc, out)?;
@@ -194,9 +191,9 @@ fn push_call(
     ensures { OnOk result (out.new.items ≡ out.old.items ++ seen.arguments_sites (known_in known.now) holder required (option_map (λ t. t.now) member.entry) arguments.now.open.start (seen.items_of (map_arguments seen.expr arguments.now))) }
 {
     let items = arguments.items.as_slice();
-    if !(required && has_string(items)) {
-        push_call_sites(holder, member, arguments.open.start, items.len(), out)?;
-    }
+    let start = arguments.open.start;
+    let is_required = is_required(required, items);
+    push_own_sites(is_required, holder, member, start, items.len(), out)?;
     push_items(known, holder, items, out)
 }
 

@@ -1,5 +1,5 @@
 //! The sites of a call.
-ghost use Rattle.std.specs.Prelude.{◌≡◌, ◌++◌, map, is_some, OnOk};
+ghost use Rattle.std.specs.Prelude.{◌≡◌, ◌++◌, ◌&&◌, [], map, is_some, if◌then◌else◌, OnOk};
 ghost use Rattle.std.specs.Option.{option_map};
 ghost use Rattle.js_tree.proofs.Folds.{map_listed};
 ghost use Rattle.js_scopes.specs.Scopes as seen;
@@ -9,8 +9,15 @@ use jam_base::{OutOfMemory, Text};
 use js_tree::{Expr, Listed, Token, TokenClass};
 use sqlite_items::Boxed;
 
-/// Whether the first of the arguments is a string.
-pub(crate) fn has_string(items: &[Listed<Boxed<Expr>>]) -> bool
+/// Whether a call is one of `require` with a string, where what is called may be `require`.
+pub(crate) fn is_required(required: bool, items: &[Listed<Boxed<Expr>>]) -> bool
+    ensures { result ≡ (required && is_some (seen.first_string (map (λ x. x.item) (map (map_listed seen.expr) items.now)))) }
+{
+    required && has_string(items)
+}
+
+// Whether the first of the arguments is a string.
+fn has_string(items: &[Listed<Boxed<Expr>>]) -> bool
     ensures { result ≡ is_some (seen.first_string (map (λ x. x.item) (map (map_listed seen.expr) items.now))) }
 {
     match items.first() {
@@ -45,8 +52,26 @@ fn is_string_token(token: &Token) -> bool
     }
 }
 
-/// Adds the sites of a call with so many arguments, behind a member of this name or none.
-pub(crate) fn push_call_sites(
+/// Adds the sites of a call that is no require.
+pub(crate) fn push_own_sites(
+    is_required: bool,
+    holder: u32,
+    member: Option<&Text>,
+    offset: u32,
+    count: usize,
+    out: &mut Vec<SiteInfo>,
+) -> Result<(), OutOfMemory>
+    ensures { OnOk result (out.new.items ≡ out.old.items ++ (if is_required then [] else seen.call_sites holder (option_map (λ t. t.now) member.entry) offset count)) }
+{
+    if is_required {
+        Ok(())
+    } else {
+        push_call_sites(holder, member, offset, count, out)
+    }
+}
+
+// Adds the sites of a call with so many arguments, behind a member of this name or none.
+fn push_call_sites(
     holder: u32,
     member: Option<&Text>,
     offset: u32,

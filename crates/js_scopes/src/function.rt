@@ -1,5 +1,7 @@
 //! The functions of a module.
 ghost use Rattle.std.specs.Prelude.{◌≡◌, ◌++◌, IfOk, OnOk};
+ghost use Rattle.std.specs.List.Sorted.{IsNonDecreasingBy};
+ghost use Rattle.js_scopes.specs.declared.function.FunctionInfo.{FunctionInfo as GhostInfo};
 ghost use Rattle.js_scopes.specs.Scopes.{functions_of, name_of, anonymous};
 ghost use Rattle.js_scopes.specs.Scopes as seen;
 ghost use Rattle.js_scopes.specs.Walks.{tail_items, in_items, in_tails, in_slots, in_stmts};
@@ -40,9 +42,7 @@ impl Ranked for FunctionInfo {
 pub fn functions(alloc: Global, tree: &Tree) -> Result<List<FunctionInfo>, OutOfMemory>
     ensures { IfOk result (λ made. made ≡ functions_of tree.now) }
 {
-    let mut inner = Vec::new(alloc);
-    push_stmts(alloc, tree.body.as_slice(), &mut inner)?;
-    let mut inner = ascending(alloc, inner)?;
+    let mut inner = inner_functions(alloc, tree)?;
     let mut out = Vec::new(alloc);
     out.push(FunctionInfo {
         start: 0,
@@ -51,6 +51,16 @@ pub fn functions(alloc: Global, tree: &Tree) -> Result<List<FunctionInfo>, OutOf
     })?;
     out.append(&mut inner)?;
     Ok(List::of(out))
+}
+
+// The functions of a tree but the module's body, by their start.
+pub(crate) fn inner_functions(alloc: Global, tree: &Tree) -> Result<Vec<FunctionInfo>, OutOfMemory>
+    ensures made { IfOk result (λ made. made.items ≡ seen.inner_functions tree.now) }
+    ensures ascending { IfOk result (λ made. IsNonDecreasingBy (λ (f : GhostInfo). f.start) made.items) }
+{
+    let mut inner = Vec::new(alloc);
+    push_stmts(alloc, tree.body.as_slice(), &mut inner)?;
+    ascending(alloc, inner)
 }
 
 #[cycle(functions)]

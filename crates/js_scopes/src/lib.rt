@@ -22,4 +22,3 @@ pub use function::{FunctionInfo, functions};
 pub use numbers::function_number;
 pub use order::{Ranked, ascending};
 pub use site::SiteInfo;
-

@@ -21,34 +21,34 @@ abbrev pub invariant-push_slots-loop-listed : goal.invariant-push_slots-loop-lis
 invariant-push_slots-loop-listed l = l.out.items ≡ l.initial.out.items ++ in_slots (λ x. x.sites (known_in l.known) l.holder) (take l.listed-index l.slots)
 
 abbrev pub decreases-push_tails : goal.decreases-push_tails
-decreases-push_tails l = 4 * goal.size-push_tails l + 2
+decreases-push_tails l = 8 * goal.size-push_tails l + 4
 
 abbrev pub decreases-push_tail : goal.decreases-push_tail
-decreases-push_tail l = 4 * goal.size-push_tail l + 3
+decreases-push_tail l = 8 * goal.size-push_tail l + 3
 
 abbrev pub decreases-push_call : goal.decreases-push_call
-decreases-push_call l = 4 * goal.size-push_call l + 2
+decreases-push_call l = 8 * goal.size-push_call l + 2
 
 abbrev pub decreases-push_items : goal.decreases-push_items
-decreases-push_items l = 4 * goal.size-push_items l + 1
+decreases-push_items l = 8 * goal.size-push_items l + 1
 
 abbrev pub decreases-push_slots : goal.decreases-push_slots
-decreases-push_slots l = 4 * goal.size-push_slots l + 1
+decreases-push_slots l = 8 * goal.size-push_slots l + 1
 
 abbrev pub decreases-push_stmts : goal.decreases-push_stmts
-decreases-push_stmts l = 4 * goal.size-push_stmts l + 1
+decreases-push_stmts l = 8 * goal.size-push_stmts l + 1
 
 abbrev pub decreases-push_expr : goal.decreases-push_expr
-decreases-push_expr l = 4 * goal.size-push_expr l + 0
+decreases-push_expr l = 8 * goal.size-push_expr l + 0
 
 abbrev pub decreases-push_function : goal.decreases-push_function
-decreases-push_function l = 4 * goal.size-push_function l + 0
+decreases-push_function l = 8 * goal.size-push_function l + 0
 
 abbrev pub decreases-push_pattern : goal.decreases-push_pattern
-decreases-push_pattern l = 4 * goal.size-push_pattern l + 0
+decreases-push_pattern l = 8 * goal.size-push_pattern l + 0
 
 abbrev pub decreases-push_slot : goal.decreases-push_slot
-decreases-push_slot l = 4 * goal.size-push_slot l + 0
+decreases-push_slot l = 8 * goal.size-push_slot l + 0
 
 abbrev pub decreases-push_stmt : goal.decreases-push_stmt
-decreases-push_stmt l = 4 * goal.size-push_stmt l + 0
+decreases-push_stmt l = 8 * goal.size-push_stmt l + 0
