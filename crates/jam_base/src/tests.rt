@@ -1,6 +1,6 @@
 use crate::{
     EntryName, Failed, Folder, Keeper, List, MemFolder, MemKeeper, MemSink, ModulePath, Sink, Text,
-    place_of,
+    place_of, places_of,
 };
 use std::alloc::Global;
 use std::process::Abort;
@@ -32,6 +32,33 @@ fn places_go_by_the_five_line_ends(rt: HostRuntime) {
         );
         assert_eq!(rt; place.offset, offset);
     }
+}
+
+#[test]
+fn places_are_found_in_any_order(rt: HostRuntime) -> Result<(), Fail> {
+    let text = "ab\n\r\ncd\re";
+    let places = places_of(rt.alloc(), text, &[0, 1, 3, 5, 2, 2, 9, 8])?;
+    let mut found = places.iter();
+    for (offset, line, column) in [
+        (0, 1, 1),
+        (1, 1, 2),
+        (3, 2, 1),
+        (5, 3, 1),
+        (2, 1, 3),
+        (2, 1, 3),
+        (9, 4, 2),
+        (8, 4, 1),
+    ] {
+        let Some(place) = found.next() else {
+            panic!(&rt; "too few places");
+        };
+        assert_eq!(rt;
+            (place.offset, place.line, place.column),
+            (offset, line, column)
+        );
+    }
+    assert!(rt; found.next().is_none());
+    Ok(())
 }
 
 // The text of the path that a text names, or `none`.
