@@ -70,6 +70,17 @@ fn faults_come_in_order(rt: HostRuntime) -> Result<(), Fail> {
             "{\"lockfileVersion\":2,\"packages\":[]}",
             "wrong shape at packages",
         ),
+    ];
+    for (text, printed) in rows {
+        check_fault(&rt, alloc, text, printed)?;
+    }
+    Ok(())
+}
+
+#[test]
+fn the_first_bad_location_is_told(rt: HostRuntime) -> Result<(), Fail> {
+    let alloc = rt.alloc();
+    let rows = [
         (
             "{\"lockfileVersion\":3,\"packages\":{\"b\":3,\"a\":[]}}",
             "wrong shape at a",
