@@ -1,63 +1,52 @@
--- The text of a module and the call graph that it owes.
-use Rattle.std.specs.Prelude.{◌≡◌, ℕ, Bool, true, List, [], ◌∷◌, map, Some, unwrap_or, slice_get, nat_lt}
-use Rattle.std.specs.List.{list_all}
-use Rattle.js_tree.specs.declared.tree.Tree.{Tree}
-use Rattle.js_tree.specs.Spells.{Spells}
+-- The call graph that is owed.
+use Rattle.std.specs.Prelude.{◌≡◌, ℕ, List, [], map, Some, unwrap_or, slice_get}
 use Rattle.jam_base.specs.Files.{Files}
 use Rattle.jam_base.specs.Place.{place_at}
 use Rattle.jam_base.specs.declared.edge.Edge.{Edge}
+use Rattle.jam_base.specs.declared.edge.FunctionRef.{FunctionRef}
 use Rattle.js_scopes.specs.declared.function.FunctionInfo.{FunctionInfo}
 use Rattle.js_scopes.specs.Scopes.{functions_of}
 use Rattle.flow_rules.specs.Flows.{constraints_of}
+use Rattle.composer.specs.declared.application.Link.{Link}
 use Rattle.composer.specs.Edges.{IsEdgeList}
 use Rattle.report_text.specs.declared.shown.PathStep.{PathStep}
 use Rattle.report_text.specs.declared.shown.Shown.{Shown}
 use Rattle.report_text.specs.Graph.{graph_text_of}
-use Rattle.jam_app.specs.Entries.{Module, entry_in}
+use Rattle.jam_app.specs.Entries.{entry_path}
+use Rattle.jam_app.specs.Rounds.{LoadedModule, IsApplication, AreLinks}
 
--- all bytes are below 128, so the bytes are the text
-abbrev pub is_ascii : List ℕ → Bool
-is_ascii bytes = list_all (λ b. nat_lt b 128) bytes
+-- the module with this number
+abbrev pub module_at : List LoadedModule → ℕ → LoadedModule
+module_at modules m = unwrap_or (slice_get modules m) (record { path = []; bytes = []; tree = record { body = [] } })
 
--- the tree spells the text in the file
-pub record IsSpelled (bytes : List ℕ) (tree : Tree) : Type 0 where
-  pub ascii : is_ascii bytes ≡ true
-  pub spells : Spells bytes tree
-
--- no tree spells the text in the file
-abbrev pub IsBad : List ℕ → Type 0
-IsBad bytes = (tree : Tree) → IsSpelled bytes tree → ⊥
-
--- the function with this number, as it is printed
+-- the function with this number
 abbrev pub function_at : List FunctionInfo → ℕ → FunctionInfo
-function_at functions number = unwrap_or (slice_get functions number) (record { start = 0; params = 0; name = [] })
+function_at functions f = unwrap_or (slice_get functions f) (record { start = 0; params = 0; name = [] })
 
-abbrev pub shown_function : List ℕ → List ℕ → FunctionInfo → Shown
-shown_function path text f = record { path = path; line = (place_at text f.start).line; column = (place_at text f.start).column; name = f.name }
+-- a function of a module, as it is printed
+abbrev pub shown_in : LoadedModule → FunctionInfo → Shown
+shown_in m f = record { path = m.path; line = (place_at m.bytes f.start).line; column = (place_at m.bytes f.start).column; name = f.name }
 
--- a call edge inside a module with this path, text and functions, as it is printed
-abbrev pub shown_edge : List ℕ → List ℕ → List FunctionInfo → Edge → PathStep
-shown_edge path text functions edge = record {
-  path = path;
-  line = (place_at text edge.offset).line;
-  column = (place_at text edge.offset).column;
-  callee = shown_function path text (function_at functions edge.callee.function);
+abbrev pub shown_function : List LoadedModule → FunctionRef → Shown
+shown_function modules f = shown_in (module_at modules f.module) (function_at (functions_of (module_at modules f.module).tree) f.function)
+
+-- a call edge between functions of the modules, as it is printed
+abbrev pub shown_edge : List LoadedModule → Edge → PathStep
+shown_edge modules edge = record {
+  path = (module_at modules edge.caller.module).path;
+  line = (place_at (module_at modules edge.caller.module).bytes edge.offset).line;
+  column = (place_at (module_at modules edge.caller.module).bytes edge.offset).column;
+  callee = shown_function modules edge.callee;
 }
 
--- the text is the call edges of the least solution of the constraints of the tree, which stands alone and has this path and text
-pub record IsPrinted (path text : List ℕ) (tree : Tree) (printed : List ℕ) : Type 0 where
-  pub edges : List Edge
-  pub edges_are : IsEdgeList (constraints_of tree ∷ []) [] edges
-  pub graph : printed ≡ graph_text_of (map (shown_edge path text (functions_of tree)) edges)
-
--- the text is the call graph of a module that stands alone
-pub record IsModuleGraph (path bytes text : List ℕ) : Type 0 where
-  pub tree : Tree
-  pub spelled : IsSpelled bytes tree
-  pub printed : IsPrinted path bytes tree text
-
--- the text that `graph` owes for the operand over the files
+-- the text that `graph` owes for the operand over the files: the call edges of the least solution of the constraints of all loaded modules at once
 pub record IsGraphText (operand : List ℕ) (files : Files) (text : List ℕ) : Type 0 where
-  pub entry : Module
-  pub found : entry_in operand files ≡ Some entry
-  pub graph : IsModuleGraph entry.path entry.bytes text
+  pub entry : List ℕ
+  pub found : entry_path operand files ≡ Some entry
+  pub modules : List LoadedModule
+  pub application : IsApplication files entry modules
+  pub links : List Link
+  pub links_are : AreLinks files modules links
+  pub edges : List Edge
+  pub edges_are : IsEdgeList (map (λ m. constraints_of m.tree) modules) links edges
+  pub graph : text ≡ graph_text_of (map (shown_edge modules) edges)
