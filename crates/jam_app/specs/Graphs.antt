@@ -1,5 +1,5 @@
 -- The call graph that is owed.
-use Rattle.std.specs.Prelude.{◌≡◌, ℕ, List, [], map, Some, unwrap_or, slice_get}
+use Rattle.std.specs.Prelude.{◌≡◌, ℕ, List, [], map, Some, None, slice_get}
 use Rattle.jam_base.specs.Files.{Files}
 use Rattle.jam_base.specs.Place.{place_at}
 use Rattle.jam_base.specs.declared.edge.Edge.{Edge}
@@ -15,29 +15,35 @@ use Rattle.report_text.specs.Graph.{graph_text_of}
 use Rattle.jam_app.specs.Entries.{entry_path}
 use Rattle.jam_app.specs.Rounds.{LoadedModule, IsApplication, AreLinks}
 
--- the module with this number
-abbrev pub module_at : List LoadedModule → ℕ → LoadedModule
-module_at modules m = unwrap_or (slice_get modules m) (record { path = []; bytes = []; tree = record { body = [] } })
+-- what is printed of a function that no edge can name
+abbrev pub nowhere : Shown
+nowhere = record { path = []; line = 1; column = 1; name = [] }
 
--- the function with this number
-abbrev pub function_at : List FunctionInfo → ℕ → FunctionInfo
-function_at functions f = unwrap_or (slice_get functions f) (record { start = 0; params = 0; name = [] })
+-- a function of a module with this path and text, as it is printed
+abbrev pub shown_at : List ℕ → List ℕ → FunctionInfo → Shown
+shown_at path text f = record { path = path; line = (place_at text f.start).line; column = (place_at text f.start).column; name = f.name }
 
--- a function of a module, as it is printed
 abbrev pub shown_in : LoadedModule → FunctionInfo → Shown
-shown_in m f = record { path = m.path; line = (place_at m.bytes f.start).line; column = (place_at m.bytes f.start).column; name = f.name }
+shown_in m = shown_at m.path m.bytes
 
+-- the function with this number of a module, as it is printed
+abbrev pub shown_number : ℕ → LoadedModule → Shown
+shown_number f m = elim (slice_get (functions_of m.tree) f) [ None ↦ nowhere | Some info ↦ shown_in m info ]
+
+-- a function of the modules, as it is printed
 abbrev pub shown_function : List LoadedModule → FunctionRef → Shown
-shown_function modules f = shown_in (module_at modules f.module) (function_at (functions_of (module_at modules f.module).tree) f.function)
+shown_function modules f = elim (slice_get modules f.module) [ None ↦ nowhere | Some m ↦ shown_number f.function m ]
+
+-- a call of this function at an offset of a module, as it is printed
+abbrev pub shown_call : ℕ → Shown → LoadedModule → PathStep
+shown_call offset callee m = record { path = m.path; line = (place_at m.bytes offset).line; column = (place_at m.bytes offset).column; callee = callee }
 
 -- a call edge between functions of the modules, as it is printed
 abbrev pub shown_edge : List LoadedModule → Edge → PathStep
-shown_edge modules edge = record {
-  path = (module_at modules edge.caller.module).path;
-  line = (place_at (module_at modules edge.caller.module).bytes edge.offset).line;
-  column = (place_at (module_at modules edge.caller.module).bytes edge.offset).column;
-  callee = shown_function modules edge.callee;
-}
+shown_edge modules edge = elim (slice_get modules edge.caller.module) [
+  | None ↦ record { path = []; line = 1; column = 1; callee = shown_function modules edge.callee }
+  | Some m ↦ shown_call edge.offset (shown_function modules edge.callee) m
+]
 
 -- the text that `graph` owes for the operand over the files: the call edges of the least solution of the constraints of all loaded modules at once
 pub record IsGraphText (operand : List ℕ) (files : Files) (text : List ℕ) : Type 0 where
