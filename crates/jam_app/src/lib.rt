@@ -3,12 +3,17 @@
 
 mod edges;
 mod graph;
+mod loaded;
 mod message;
+mod module;
 mod refusal;
 mod request;
+mod rounds;
+mod size;
 mod source;
 mod status;
 mod stop;
+mod text;
 mod top;
 mod write;
 
