@@ -11,7 +11,7 @@ use crate::loaded::{Led, Loaded};
 use crate::source::{Source, module_path};
 use crate::text::{Bad, tree_of};
 use crate::{Refusal, Stop};
-use flow_rules::{Constraints, Require};
+use flow_rules::{Constraints, Require, constraints};
 use jam_base::{Folder, ModulePath, OutOfMemory, Steps};
 use js_scopes::bind;
 use js_tree::Tree;
@@ -67,7 +67,7 @@ fn constraints_in(alloc: Global, tree: &Tree) -> Result<Constraints, OutOfMemory
     ensures { IfOk result (λ made. made ≡ constraints_of tree.now) }
 {
     let bindings = bind(alloc, tree)?;
-    Err(OutOfMemory)
+    constraints(alloc, tree, &bindings)
 }
 
 // What a module without a tree means for the run.

@@ -1,5 +1,5 @@
 //! The modules of an application, loaded round by round.
-ghost use Rattle.std.specs.Prelude.{◌≡◌, ◌↔◌, ◌≤◌, ◌+◌, ◌<◌, ◌⊎◌, ℕ, List, length, map, All, Contains, IfOk, OnOk, IsSome, Some, None};
+ghost use Rattle.std.specs.Prelude.{◌≡◌, ◌↔◌, ◌≤◌, ◌+◌, ◌++◌, ◌⊎◌, ℕ, List, length, map, All, Contains, IfOk, OnOk, IsSome, Some};
 ghost use Rattle.std.specs.List.{flat_map};
 ghost use Rattle.std.specs.BTreeMap as tree;
 ghost use Rattle.jam_app.specs.declared.loaded.Loaded.{Loaded as AnyLoaded};

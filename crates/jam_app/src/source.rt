@@ -1,5 +1,5 @@
 //! The files of modules.
-ghost use Rattle.std.specs.Prelude.{◌≡◌, ◌≤◌, ◌++◌, ◌∷◌, [], ℕ, List, length, map, OnOk, Some};
+ghost use Rattle.std.specs.Prelude.{◌≡◌, ◌≤◌, ◌+◌, ◌++◌, ◌∷◌, [], ℕ, List, length, map, OnOk, Some};
 ghost use Rattle.jam_app.specs.Entries as entries;
 ghost use Rattle.jam_app.specs.Progress.{HasExcess, IsExcess, file_at, file_of, size_of};
 ghost use Rattle.jam_app.specs.Refusals.{IsRefusal};
