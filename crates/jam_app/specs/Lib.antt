@@ -4,6 +4,7 @@ pub mod Loading
 pub mod Numbers
 pub mod Outcomes
 pub mod Parts
+pub mod Progress
 pub mod Refusals
 pub mod Requests
 pub mod Rounds

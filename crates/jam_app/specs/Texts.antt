@@ -13,6 +13,11 @@ pub record IsSpelled (bytes : List ℕ) (tree : Tree) : Type 0 where
   pub ascii : is_ascii bytes ≡ true
   pub spells : Spells bytes tree
 
+-- it is the only one that does
+pub record IsOnlyTree (bytes : List ℕ) (tree : Tree) : Type 0 where
+  pub spelled : IsSpelled bytes tree
+  pub only : (other : Tree) → IsSpelled bytes other → other ≡ tree
+
 -- no tree spells the text in the file
 abbrev pub IsBad : List ℕ → Type 0
 IsBad bytes = (tree : Tree) → IsSpelled bytes tree → ⊥

@@ -3,12 +3,19 @@
 
 mod edges;
 mod graph;
+mod links;
+mod loaded;
 mod message;
+mod module;
+mod printed;
 mod refusal;
 mod request;
+mod rounds;
+mod size;
 mod source;
 mod status;
 mod stop;
+mod text;
 mod top;
 mod write;
 

@@ -1,7 +1,7 @@
 use Rattle.std.proofs.Common.{sym, ◌∙◌}
 use Rattle.std.proofs.lemmas.Str.{IsUtf8-from_ascii}
 use Rattle.jam_app.proofs.Refusing.{ascii_bytes}
-use Rattle.jam_app.proofs.graph.ascii_text.Goals as goal
+use Rattle.jam_app.proofs.text.ascii_text.Goals as goal
 
 pub returns-in-Err-clause-none : goal.returns-in-Err-clause-none
 returns-in-Err-clause-none c =

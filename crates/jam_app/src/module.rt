@@ -1,0 +1,148 @@
+//! The modules of a round.
+ghost use Rattle.std.specs.Prelude.{◌≡◌, ◌≤◌, ℕ, length, map, All, IfOk, IfSome};
+ghost use Rattle.std.specs.List.{filter_map};
+ghost use Rattle.flow_rules.specs.Flows.{constraints_of};
+ghost use Rattle.jam_app.specs.Progress as progress;
+ghost use Rattle.jam_app.specs.Progress.{HasBad, IsRead, IsRefusedFor, source_of};
+ghost use Rattle.jam_app.specs.Texts.{IsOnlyTree};
+ghost use Rattle.jam_app.specs.Work.{Gives, stop_of};
+
+use crate::loaded::{Led, Loaded};
+use crate::source::{Source, module_path};
+use crate::text::{Bad, tree_of};
+use crate::{Refusal, Stop};
+use flow_rules::{Constraints, Require, constraints};
+use jam_base::{Folder, ModulePath, OutOfMemory, Steps};
+use js_scopes::bind;
+use js_tree::Tree;
+use node_resolve::{ResolveFault, resolve};
+use std::alloc::Global;
+use std::sync::ledger::Ledger;
+
+// Where a require leads, if to a module.
+fn led_by<F: Folder>(
+    alloc: Global,
+    folder: &mut F,
+    from: &ModulePath,
+    require: &Require,
+) -> Result<Option<Led>, Stop>
+    ensures gives { Gives (λ m led. led ≡ progress.led_by m from.now require.now)
+        (λ m owed. ⊥) (F.files folder.old) (F.faults folder.old) (F.faults folder.new) result }
+    ensures same { F.files folder.new ≡ F.files folder.old }
+    ensures later { F.faults folder.old ≤ F.faults folder.new }
+{
+    match resolve(alloc, folder, from, require.spec.as_str()) {
+        Ok(target) => Ok(module_path(target).map(|path| Led {
+            offset: require.offset,
+            path,
+        })),
+        Err(ResolveFault::ReadFault) => Err(Stop::ReadFault),
+        Err(ResolveFault::OutOfMemory) => Err(Stop::OutOfMemory),
+    }
+}
+
+// Where the requires lead that lead to modules.
+fn targets_of<F: Folder>(
+    alloc: Global,
+    folder: &mut F,
+    from: &ModulePath,
+    requires_: &[Require],
+) -> Result<Vec<Led>, Stop>
+    ensures gives { Gives (λ m targets. targets.items ≡ filter_map (progress.led_by m from.now) requires_.now)
+        (λ m owed. ⊥) (F.files folder.old) (F.faults folder.old) (F.faults folder.new) result }
+    ensures same { F.files folder.new ≡ F.files folder.old }
+    ensures later { F.faults folder.old ≤ F.faults folder.new }
+{
+    let mut targets = Vec::new(alloc);
+    for require in requires_ {
+        if let Some(led) = led_by(alloc, folder, from, require)? {
+            targets.push(led)?;
+        }
+    }
+    Ok(targets)
+}
+
+// What a tree says of the values of its module.
+fn constraints_in(alloc: Global, tree: &Tree) -> Result<Constraints, OutOfMemory>
+    ensures { IfOk result (λ made. made ≡ constraints_of tree.now) }
+{
+    let bindings = bind(alloc, tree)?;
+    constraints(alloc, tree, &bindings)
+}
+
+// What a module without a tree means for the run.
+fn stop_for(path: ModulePath, bad: Bad) -> Stop
+    ensures { result ≡ stop_of path bad }
+{
+    match bad {
+        Bad::TooLarge(length) => Stop::Refused(Refusal::TooLarge { path, length }, None),
+        Bad::At(place) => {
+            let at = place.offset;
+            Stop::Refused(Refusal::NotInProfile { path, at }, Some(place))
+        }
+        Bad::OutOfMemory => Stop::OutOfMemory,
+    }
+}
+
+// The module of a file with this tree.
+fn module_with<F: Folder>(
+    alloc: Global,
+    folder: &mut F,
+    source: Source,
+    tree: Tree,
+) -> Result<Loaded, Stop>
+    requires { IsOnlyTree source.bytes.items tree }
+    ensures gives { Gives (λ m l. (source_of l ≡ source) × IsRead m l)
+        (λ m owed. ⊥) (F.files folder.old) (F.faults folder.old) (F.faults folder.new) result }
+    ensures same { F.files folder.new ≡ F.files folder.old }
+    ensures later { F.faults folder.old ≤ F.faults folder.new }
+{
+    let constraints = constraints_in(alloc, &tree)?;
+    let targets = targets_of(alloc, folder, &source.path, constraints.requires_())?;
+    let Source { path, bytes } = source;
+    Ok(Loaded {
+        path,
+        bytes,
+        tree,
+        constraints,
+        targets,
+    })
+}
+
+// The module of a file.
+fn module_of<F: Folder, L: Ledger>(
+    alloc: Global,
+    folder: &mut F,
+    source: Source,
+    steps: &mut Steps<L>,
+) -> Result<Loaded, Stop>
+    ensures gives { Gives (λ m l. (source_of l ≡ source) × IsRead m l)
+        (λ m owed. IsRefusedFor source.path source.bytes.items owed) (F.files folder.old) (F.faults folder.old) (F.faults folder.new) result }
+    ensures same { F.files folder.new ≡ F.files folder.old }
+    ensures later { F.faults folder.old ≤ F.faults folder.new }
+{
+    match tree_of(alloc, source.bytes.as_slice(), steps) {
+        Ok(tree) => module_with(alloc, folder, source, tree),
+        Err(bad) => Err(stop_for(source.path, bad)),
+    }
+}
+
+/// The modules of the files of a round, in their order.
+pub(crate) fn modules_of<F: Folder, L: Ledger>(
+    alloc: Global,
+    folder: &mut F,
+    sources: Vec<Source>,
+    steps: &mut Steps<L>,
+) -> Result<Vec<Loaded>, Stop>
+    ensures gives { Gives (λ m modules. (map source_of modules.items ≡ sources.items) × All (IsRead m) modules.items)
+        (λ m owed. HasBad sources.items owed) (F.files folder.old) (F.faults folder.old) (F.faults folder.new) result }
+    ensures same { F.files folder.new ≡ F.files folder.old }
+    ensures later { F.faults folder.old ≤ F.faults folder.new }
+{
+    let mut modules = Vec::new(alloc);
+    for source in sources {
+        let module = module_of(alloc, folder, source, steps)?;
+        modules.push(module)?;
+    }
+    Ok(modules)
+}
