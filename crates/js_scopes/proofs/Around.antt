@@ -28,11 +28,6 @@ of n around s = s.names n (around_of around)
 abbrev pub value_of : Numbering → Surroundings → Function → List BoundName
 value_of n around f = own_names n (around_value (function f) (around_of around)) (function f)
 
--- the scopes inside another
-pub scopes_inside : (xs : List (Bor (List (Bor Token)))) (own : Bor (List (Bor Token))) (outer : List (Bor (List (Bor Token)))) (declares : Scope)
-    → xs ≡ own ∷ outer → map (λ (t : Bor Token). t.now) own.now ≡ declares → scopes_of xs ≡ declares ∷ scopes_of outer
-scopes_inside xs own outer declares e d = ap scopes_of e ∙ ap (λ (s : Scope). s ∷ scopes_of outer) d
-
 abbrev IsStart : ℕ → Option ℕ → Type 0
 IsStart start None = ⊥
 IsStart start (Some k) = start ≡ k

@@ -1,5 +1,5 @@
 //! The scopes of a module, and what a name means in them.
-ghost use Rattle.std.specs.Prelude.{◌≡◌, ◌++◌, map, IfOk, OnOk};
+ghost use Rattle.std.specs.Prelude.{◌≡◌, ◌++◌, ◌∷◌, map, IfOk, OnOk};
 ghost use Rattle.std.specs.Option.{option_map};
 ghost use Rattle.js_scopes.specs.Names as names;
 ghost use Rattle.js_scopes.specs.Scopes as seen;
@@ -106,6 +106,20 @@ pub(crate) fn own_name(function: &Function) -> Option<&Token>
             body: _,
         } => name.as_ref(),
     }
+}
+
+// The scopes inside a scope of their own, innermost first.
+pub(crate) fn scopes_inside<'t>(
+    alloc: Global,
+    own: &'t [&'t Token],
+    outer: &[&'t [&'t Token]],
+) -> Result<Vec<&'t [&'t Token]>, OutOfMemory>
+    ensures { IfOk result (λ scopes. scopes_of scopes.items ≡ map (λ t. t.now) own.now ∷ scopes_of outer.now) }
+{
+    let mut scopes = Vec::new(alloc);
+    scopes.push(own)?;
+    scopes.extend_from_slice(outer)?;
+    Ok(scopes)
 }
 
 // The offset of the first token of the scope that is the name.
