@@ -45,10 +45,7 @@ fn push_declared<'t>(
 }
 
 // Adds the name, where there is one.
-pub(crate) fn push_token<'t>(
-    name: Option<&'t Token>,
-    scope: &mut Vec<&'t Token>,
-) -> Result<(), OutOfMemory>
+fn push_token<'t>(name: Option<&'t Token>, scope: &mut Vec<&'t Token>) -> Result<(), OutOfMemory>
     ensures { OnOk result (map (λ t. t.now) scope.new.items ≡ map (λ t. t.now) scope.old.items ++ seen.name_list (option_map (λ t. t.now) name.entry)) }
 {
     if let Some(name) = name {
@@ -106,6 +103,15 @@ pub(crate) fn own_name(function: &Function) -> Option<&Token>
             body: _,
         } => name.as_ref(),
     }
+}
+
+// The scope of the own name of a function that is a value.
+pub(crate) fn own_scope(alloc: Global, function: &Function) -> Result<Vec<&Token>, OutOfMemory>
+    ensures { IfOk result (λ scope. map (λ t. t.now) scope.items ≡ (seen.function function.now).own_name) }
+{
+    let mut scope = Vec::new(alloc);
+    push_token(own_name(function), &mut scope)?;
+    Ok(scope)
 }
 
 // The scopes inside a scope of their own, innermost first.

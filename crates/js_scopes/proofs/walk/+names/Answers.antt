@@ -142,8 +142,7 @@ pub push_value-returns : goal.push_value-returns
 push_value-returns t c n same =
     subst (λ s. OnOk c.push_declared.result (c.push_declared.new.out.items ≡ c.args.out.now.items ++ own_names n (record { scopes = s; holder = c.args.around.holder }) (seen.function c.args.function.now)))
     (ap scopes_of c.as_slice-2.ensures.value ∙ c.in_ok-scopes.ensures
-    ∙ ap (λ s. s ∷ scopes_of c.args.around.scopes.now) (ap (λ xs. map (λ t. t.now) xs) c.as_slice.ensures.value ∙ c.in_ok-push_token.ensures {u = tt}
-    ∙ ap (λ xs. map (λ t. t.now) xs ++ name_list (option_map (λ t. t.now) c.own_name-own.result)) c.new-scope.ensures.items ∙ c.own_name-own.ensures))
+    ∙ ap (λ s. s ∷ scopes_of c.args.around.scopes.now) (ap (λ xs. map (λ t. t.now) xs) c.as_slice.ensures.value ∙ c.in_ok-own.ensures))
     (c.push_declared.ensures n same)
 
 pub push_function-returns : goal.push_function-returns
