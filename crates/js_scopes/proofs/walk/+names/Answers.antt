@@ -1,7 +1,6 @@
-use Rattle.std.proofs.Common.{◌≡◌, get_or, ◌++◌, [], ◌∷◌, map, sym, ap, ◌∙◌, append-nil, arith, subst, nat_lt, ◌+◌, OnOk}
+use Rattle.std.proofs.Common.{◌≡◌, get_or, ◌++◌, ◌∷◌, map, sym, ap, ◌∙◌, append-nil, arith, subst, nat_lt, ◌+◌, OnOk}
 use Rattle.std.proofs.lemmas.List.{take_all}
 use Rattle.std.proofs.lemmas.Result.{on_ok_weaker}
-use Rattle.std.specs.Option.{option_map}
 use Rattle.std.specs.List.{count_by}
 use borrow.Enum.Total.{values_d, values_d_at}
 use Rattle.js_tree.specs.contracts.tree.Function.{enum}
