@@ -1,5 +1,5 @@
 -- Ascending lists that are merged.
-use Rattle.std.proofs.Common.{◌≡◌, ◌≢◌, ◌<◌, ℕ, take, drop, List, [], ◌∷◌, ◌++◌, length, refl, sym, ap, subst, ◌∙◌, true, append_assoc, arith}
+use Rattle.std.proofs.Common.{◌≡◌, ◌<◌, ℕ, take, drop, List, [], ◌∷◌, ◌++◌, length, refl, sym, ap, subst, ◌∙◌, true, append_assoc, arith}
 use Rattle.std.proofs.lemmas.List.{take-append-drop}
 use Rattle.std.specs.Cmp.{IsTotalOrder}
 use Rattle.std.specs.Ordering.{ordering_reverse, match_ordering}
@@ -151,11 +151,6 @@ module _ {X : Type 0} (R : X → X → Ordering) where
   pushed_greater [] ys ys' out out' h e = absurd (subst Lesser e tt)
   pushed_greater (x ∷ xs) ys ys' out out' h e =
       pushed (x ∷ xs) ys out out' h.0 (merge (x ∷ xs) ys') h.2 (ap (λ zs. merge (x ∷ xs) zs) h.1 ∙ merge_greater x h.0 xs ys' (ap (λ zs. first_order R (x ∷ xs) zs) (sym h.1) ∙ e))
-
-  pub second_some : (xs ys : List X) → first_order R xs ys ≢ Less → 0 < length ys
-  second_some [] ys h = absurd (h refl)
-  second_some (x ∷ xs) [] h = absurd (h refl)
-  second_some (x ∷ xs) (y ∷ ys) h = omega arith
 
   -- a list without two items is ascending
   pub short_ascends : (xs : List X) → length xs < 2 → xs ≡ ascending R xs
