@@ -176,8 +176,10 @@ fn push_calls(
     ensures { OnOk result (steps.new.items ≡ steps.old.items ++ map (edge_among printed.now) edges.now) }
 {
     for i in 0..edges.len() {
-        let callee = function_of(alloc, printed, edges[i].callee)?;
-        steps.push(call_at(alloc, module, places[i], callee)?)?;
+        let edge = &edges[i];
+        let place = &places[i];
+        let callee = function_of(alloc, printed, edge.callee)?;
+        steps.push(call_at(alloc, module, place, callee)?)?;
     }
     Ok(())
 }
@@ -186,10 +188,10 @@ fn push_calls(
 fn call_at(
     alloc: Global,
     module: &Printed,
-    place: Place,
+    place: &Place,
     callee: Shown,
 ) -> Result<PathStep, OutOfMemory>
-    ensures { (offset : ℕ) → spot_of place ≡ spot_at module.now.text offset → IfOk result (λ step. step ≡ call_in offset callee module.now) }
+    ensures { (offset : ℕ) → spot_of place.now ≡ spot_at module.now.text offset → IfOk result (λ step. step ≡ call_in offset callee module.now) }
 {
     Ok(PathStep {
         path: Text::of(alloc, module.path())?,

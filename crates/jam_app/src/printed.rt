@@ -1,5 +1,5 @@
 //! What is printed of a module.
-ghost use Rattle.std.specs.Prelude.{◌≡◌, ◌<◌, [], length, map, All, IfOk, Some, None, slice_get, unwrap_or};
+ghost use Rattle.std.specs.Prelude.{◌≡◌, ◌<◌, ℕ, List, length, map, All, IfOk, Some, None, slice_get, unwrap_or};
 ghost use Rattle.std.specs.Str.{IsAscii, IsCharBoundary};
 ghost use Rattle.jam_app.specs.Graphs.{nowhere, shown_at};
 ghost use Rattle.jam_app.specs.Parts.{spot_at, spot_of};
@@ -112,17 +112,29 @@ fn shown_functions(
 {
     let starts = starts_of(alloc, functions)?;
     let places = places_within(alloc, text, starts.as_slice())?;
+    let places = places.as_slice();
     let mut made = Vec::new(alloc);
     for i in 0..functions.len() {
-        let place = places[i];
-        made.push(Shown {
-            path: Text::of(alloc, path)?,
-            line: place.line,
-            column: place.column,
-            name: functions[i].name.copy(alloc)?,
-        })?;
+        made.push(shown_function(alloc, path, &places[i], &functions[i])?)?;
     }
     Ok(made)
+}
+
+// A function that starts at the place, as it is printed.
+fn shown_function(
+    alloc: Global,
+    path: &str,
+    place: &Place,
+    function: &FunctionInfo,
+) -> Result<Shown, OutOfMemory>
+    ensures { (text : List ℕ) → spot_of place.now ≡ spot_at text function.now.start → IfOk result (λ shown. shown ≡ shown_at path.now text function.now) }
+{
+    Ok(Shown {
+        path: Text::of(alloc, path)?,
+        line: place.line,
+        column: place.column,
+        name: function.name.copy(alloc)?,
+    })
 }
 
 // The offsets at which functions start.
