@@ -32,13 +32,19 @@ pub fn constraints(
     let requires_ = ascending(alloc, requires_)?;
     let notes = ascending(alloc, notes)?;
     let flows = ascending(alloc, flows)?;
-    Ok(Constraints::of(
+    let made = Constraints::of(
         functions,
         sites,
         List::of(requires_),
         List::of(notes),
         List::of(flows),
-    ))
+    );
+    match made {
+        Some(made) => Ok(made),
+        // Where each list has fewer than 2^32 items, and each text fewer than 2^32 bytes, this is not
+        // known to come, but that a tree's lists keep the other rules is not proved.
+        None => Err(OutOfMemory),
+    }
 }
 
 // The flows, requires and notes of a tree with these functions, the module's body first.
