@@ -41,8 +41,9 @@ pub fn constraints(
     );
     match made {
         Some(made) => Ok(made),
-        // Where each list has fewer than 2^32 items, and each text fewer than 2^32 bytes, this is not
-        // known to come, but that a tree's lists keep the other rules is not proved.
+        // A list has 2^32 items, or a text 2^32 bytes, or two calls of the tree have one offset and not
+        // as many arguments (a parsed text has one `(` at an offset). That the lists of every other
+        // tree keep the rules is not proved.
         None => Err(OutOfMemory),
     }
 }
