@@ -19,7 +19,7 @@ ghost use Rattle.js_parser.specs.Reading.{Read, OnlyRead, Anywhere, Moves, Sees}
 
 use crate::call::{call, target};
 use crate::fault::ParseFault;
-use crate::head::{head, is_member_of};
+use crate::head::{head, is_exports};
 use crate::lexer::Lexer;
 use crate::path::Head;
 use crate::rules::params;
@@ -163,7 +163,7 @@ impl<S: Fn(Global, &mut Lexer<'_>, u32) -> Result<Tall<Items<Stmt>>, ParseFault>
         ensures moves { Moves lexer.old lexer.new result }
         ensures shorter { IfOk result (λ _. length lexer.new.left < length lexer.old.left) }
     {
-        if !is_member_of(&head, "exports") {
+        if !is_exports(&head) {
             return Err(lexer.refusal());
         }
         let target = target(self.alloc, head)?;
