@@ -1,15 +1,11 @@
 -- How a list is read, item by item.
-use Rattle.std.proofs.Common.{◌≡◌, ℕ, ◌≤◌, max, List, [], ◌∷◌, ◌++◌, refl, sym, ap, ◌∙◌, subst, arith, append_assoc, Err}
+use Rattle.std.proofs.Common.{◌≡◌, ℕ, ◌≤◌, max, List, [], ◌∷◌, ◌++◌, refl, sym, ap, ◌∙◌, subst, arith, append-nil, append_assoc, Err}
 use Rattle.js_tree.specs.Lexing.{Place}
 use Rattle.js_tree.specs.Spelling.{Piece, Onto, each_of, tallest_of}
 use Rattle.js_parser.proofs.ExitLemmas.{handed_on}
 use Rattle.js_parser.proofs.PlaceLemmas.{passes_on}
 use Rattle.js_parser.specs.Reading.{Reads, Read, Gives, Progress, Passes}
 use Rattle.js_parser.specs.declared.fault.ParseFault.{ParseFault}
-
-append-nil : {X : Type 0} (xs : List X) → xs ++ [] ≡ xs
-append-nil [] = refl
-append-nil {X} (x ∷ xs) = ap (λ (ys : List X). x ∷ ys) (append-nil xs)
 
 pub tallest-push : {X : Type 0} (height : X → ℕ) (xs : List X) (x : X) → tallest_of height (xs ++ x ∷ []) ≡ max (tallest_of height xs) (height x)
 tallest-push height [] x = omega arith
