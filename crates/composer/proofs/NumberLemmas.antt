@@ -14,7 +14,7 @@ use Rattle.std.proofs.lemmas.List.Sorted.{searchable_from_sorted, Contains-permu
 use Rattle.std.proofs.lemmas.List.Kept.{Contains-dedup, IsStrictlySortedBy-dedup}
 use Rattle.std.proofs.lemmas.Map.Keys.{Less-from_sorted}
 use Rattle.std.proofs.lemmas.Map.Lookups.{exact_bytes}
-use Rattle.js_scopes.proofs.Members.{here, there, into_flat_map}
+use Rattle.composer.proofs.Members.{here, there, into_flat_map}
 use Rattle.flow_rules.specs.Vertices.{vertex_key, vertex_order}
 use Rattle.flow_rules.proofs.Order.{one_vertex}
 use Rattle.composer.specs.declared.application.ModuleVertex.{ModuleVertex}

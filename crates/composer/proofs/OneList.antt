@@ -10,7 +10,7 @@ use Rattle.std.specs.List.{AllByRecursion}
 use Rattle.std.specs.List.Sorted.{IsStrictlySortedBy}
 use Rattle.jam_base.specs.declared.edge.Edge.{Edge}
 use Rattle.jam_base.specs.Edges.{edge_order}
-use Rattle.js_scopes.proofs.Members.{none, cons_cases, here, there}
+use Rattle.composer.proofs.Members.{none, cons_cases, here, there}
 use Rattle.flow_rules.specs.Constraints.{ModuleConstraints}
 use Rattle.composer.specs.declared.application.Link.{Link}
 use Rattle.composer.specs.Edges.{IsEdgeList}

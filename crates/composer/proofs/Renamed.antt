@@ -3,7 +3,7 @@ use Rattle.std.proofs.Common.{◌≡◌, ℕ, ◌<◌, ◌≤◌, List, [], ◌�
 use Rattle.std.specs.Prelude.{Contains, All}
 use Rattle.std.proofs.lemmas.List.{map-append}
 use Rattle.std.proofs.lemmas.List.Elements.{All-contains}
-use Rattle.js_scopes.proofs.Members.{from_map, into_map}
+use Rattle.composer.proofs.Members.{from_map, into_map}
 use Rattle.composer.specs.declared.system.Arrow.{Arrow}
 use Rattle.composer.specs.declared.system.Callable.{Callable}
 use Rattle.composer.specs.declared.system.CallSite.{CallSite}

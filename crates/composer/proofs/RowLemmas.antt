@@ -5,7 +5,7 @@ use Rattle.std.specs.List.{list_any}
 use Rattle.std.proofs.lemmas.List.Folds.{list_any-append}
 use Rattle.std.proofs.lemmas.Bool.Decides.{eqb_tells}
 use Rattle.std.proofs.lemmas.Bool.{eqb-true, eq-eqb, cases_eq}
-use Rattle.js_scopes.proofs.Members.{none, here, there, cons_cases, only}
+use Rattle.composer.proofs.Members.{none, here, there, cons_cases, only}
 use Rattle.composer.specs.Rows.{row, is_in, has, Holds, IsWith, Adds, gaps, room}
 
 pub bool_cases : (b : Bool) → (b ≡ true) ⊎ (b ≡ false)

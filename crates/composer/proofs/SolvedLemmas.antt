@@ -12,7 +12,7 @@ use Rattle.std.proofs.lemmas.List.Elements.{All-contains, Contains-append_cases,
 use Rattle.std.proofs.lemmas.Map.Keys.{Less-from_sorted}
 use Rattle.jam_base.specs.declared.edge.Edge.{Edge}
 use Rattle.js_scopes.specs.declared.site.SiteInfo.{SiteInfo}
-use Rattle.js_scopes.proofs.Members.{none, only, here, there, from_flat_map, into_flat_map, from_map, into_map}
+use Rattle.composer.proofs.Members.{none, only, here, there, from_flat_map, into_flat_map, from_map, into_map}
 use Rattle.flow_rules.specs.Constraints.{ModuleConstraints}
 use Rattle.flow_rules.specs.declared.vertex.Vertex.TheVariants.{Elem}
 use Rattle.composer.specs.declared.application.ModuleVertex.{ModuleVertex}

@@ -3,7 +3,7 @@ use Rattle.std.proofs.Common.{◌≡◌, ℕ, zero, suc, ◌+◌, ◌*◌, ◌<�
 use Rattle.std.specs.Prelude.{Contains, IsTrue}
 use Rattle.std.proofs.lemmas.List.{length_push}
 use Rattle.std.proofs.lemmas.List.Elements.{Contains-append_cases, Contains-append_left, Contains-append_right, Contains-push, Contains-push_cases}
-use Rattle.js_scopes.proofs.Members.{none, here, only, from_map, into_map}
+use Rattle.composer.proofs.Members.{none, here, only, from_map, into_map}
 use Rattle.composer.specs.declared.system.Arrow.{Arrow}
 use Rattle.composer.specs.declared.sweep.Placed.{Placed}
 use Rattle.composer.specs.Rows.{row, has, Holds, Adds, AreTargets, placed_at, placed_below, Grows, room, left, Spreads, Carried, IsSettled}

@@ -20,7 +20,7 @@ use Rattle.js_scopes.specs.declared.binding.Binding.{Binding}
 use Rattle.js_scopes.specs.declared.binding.Binding.TheVariants as binding
 use Rattle.js_scopes.specs.declared.binding.WrapperName.TheVariants as wrapper
 use Rattle.js_scopes.specs.Ascending.{ascending}
-use Rattle.js_scopes.specs.Scopes.{BoundName, Known, name_list, string_of, is_require, is_reflected, names_of, functions_of, sites_of, known_of}
+use Rattle.js_scopes.specs.Scopes.{Known, name_list, string_of, is_require, is_reflected, functions_of, sites_of, known_of}
 use Rattle.flow_rules.specs.declared.front.Front.{Front}
 use Rattle.flow_rules.specs.declared.module.Flow.{Flow}
 use Rattle.flow_rules.specs.declared.module.ModuleNote.{ModuleNote}

@@ -1,6 +1,6 @@
 -- What is gathered on a walk through a tree.
-use Rattle.std.specs.Prelude.{◌≡◌, ℕ, ◌+◌, Bool, false, List, [], ◌∷◌, ◌++◌, map, drop, nat_lt, Option, Some, if◌then◌else◌, codes}
-use Rattle.std.specs.List.{count_by, flat_map}
+use Rattle.std.specs.Prelude.{◌≡◌, ℕ, ◌+◌, Bool, false, List, [], ◌∷◌, ◌++◌, map, Option, Some, if◌then◌else◌, codes}
+use Rattle.std.specs.List.{flat_map}
 use Rattle.std.specs.Str.{bytes_eq}
 use Rattle.js_tree.specs.declared.token.Token.{Token}
 use Rattle.js_tree.specs.declared.tree.Expr.{Expr}
@@ -11,8 +11,6 @@ use Rattle.js_tree.specs.declared.tree.Stmt.{Stmt}
 use Rattle.js_tree.specs.declared.tree.Tail.{Tail}
 use Rattle.js_tree.specs.declared.tree.Tail.TheVariants as tail
 use Rattle.js_tree.proofs.Folds.{map_listed, map_tail}
-use Rattle.js_scopes.specs.declared.function.FunctionInfo.{FunctionInfo}
-use Rattle.js_scopes.specs.Meanings.{Meanings, meaning_in}
 use Rattle.js_scopes.specs.Scopes.{Known, is_reflected, is_require}
 use Rattle.flow_rules.specs.declared.module.Flow.{Flow}
 use Rattle.flow_rules.specs.declared.module.ModuleNote.{ModuleNote}
@@ -21,19 +19,6 @@ use Rattle.flow_rules.specs.declared.vertex.Vertex.{Vertex}
 use Rattle.flow_rules.specs.declared.vertex.Vertex.TheVariants as vertex
 use Rattle.flow_rules.specs.Flows.{Flowing, flow, applied_flows, passed_flows, takes_out, puts_in, is_numbered, all_flows, all_numbered, all_requires, all_notes, arguments_of, declared_notes, first_notes, stmt_step, expr, slot, stmt, tails_arguments, tails_flows}
 use Rattle.flow_rules.specs.declared.front.Front.{Front}
-
--- what is at hand of a module: what its names mean, and its functions
-pub record Facts : Type 0 where
-  pub meanings : Meanings
-  pub functions : List FunctionInfo
-
--- the number of the function that starts there, where the module's body comes first
-abbrev pub number_in : List FunctionInfo → ℕ → ℕ
-number_in functions start = count_by (λ (f : FunctionInfo). nat_lt f.start start) (drop 1 functions) + 1
-
--- what is known of the module with these facts
-abbrev pub known_in : Facts → Known
-known_in facts = record { binding = meaning_in facts.meanings; number = number_in facts.functions }
 
 -- flows, requires and notes, each in the order of the walk
 pub record Gathered : Type 0 where

@@ -1,35 +1,42 @@
 //! What is at hand of a module.
-ghost use Rattle.std.specs.Prelude.{◌≡◌, ◌+◌, IfOk, nat_lt, take};
-ghost use Rattle.std.specs.List.{count_by};
-ghost use Rattle.js_scopes.specs.Meanings.{meaning_in};
+ghost use Rattle.std.specs.Prelude.{◌≡◌, ◌<◌, IfOk, length};
+ghost use Rattle.std.specs.List.Sorted.{IsNonDecreasingBy};
+ghost use Rattle.js_scopes.specs.declared.function.FunctionInfo.{FunctionInfo as GhostInfo};
+ghost use Rattle.js_scopes.specs.AtHand.{known_in};
 ghost use Rattle.flow_rules.specs.Flows.{name_vertex, token_vertex};
-ghost use Rattle.flow_rules.specs.Gathering.{known_in, number_in};
 
 use crate::Vertex;
-use crate::numbers::add;
 use jam_base::{OutOfMemory, Text};
-use js_scopes::{Binding, Bindings, FunctionInfo, WrapperName};
+use js_scopes::{Binding, Bindings, FunctionInfo, WrapperName, function_number};
 use js_tree::Token;
 use std::alloc::Global;
 use std::marker::Model;
 
-/// What the names of a module mean, and its functions, the module's body first.
+/// What the names of a module mean, and its functions but its body.
+#[derive(Drop)]
 pub(crate) struct Facts<'m> {
     bindings: &'m Bindings,
     functions: &'m [FunctionInfo],
 }
 
 impl<'m> Model for Facts<'m> {
-    ghost use Rattle.flow_rules.specs.Gathering.{Facts as AtHand};
+    ghost use Rattle.std.specs.Prelude.{◌<◌, length};
+    ghost use Rattle.std.specs.List.Sorted.{IsNonDecreasingBy};
+    ghost use Rattle.js_scopes.specs.declared.function.FunctionInfo.{FunctionInfo as Info};
+    ghost use Rattle.js_scopes.specs.AtHand.{AtHand};
 
     ghost Value = { AtHand };
 
     ghost view = { λ f. record { meanings = f.bindings.now; functions = f.functions.now } };
+
+    ghost invariant = { λ f. IsNonDecreasingBy (λ (g : Info). g.start) f.functions.now × (length f.functions.now < 4294967295) };
 }
 
 impl<'m> Facts<'m> {
     /// These facts.
     pub(crate) fn of(bindings: &'m Bindings, functions: &'m [FunctionInfo]) -> Facts<'m>
+        requires ascending { IsNonDecreasingBy (λ (f : GhostInfo). f.start) functions.now }
+        requires few { length functions.now < 4294967295 }
         ensures { result ≡ record { meanings = bindings.now; functions = functions.now } }
     {
         Facts {
@@ -47,14 +54,11 @@ impl<'m> Facts<'m> {
     }
 
     /// The number of the function that starts at the offset.
-    pub(crate) fn number(&self, start: u32) -> Result<u32, OutOfMemory>
-        ensures { IfOk result (λ n. n ≡ (known_in self.now).number start) }
+    pub(crate) fn number(&self, start: u32) -> u32
+        ensures { result ≡ (known_in self.now).number start }
     {
         let functions = self.functions;
-        match functions.split_first() {
-            None => Ok(1),
-            Some((_, inner)) => add(count_before(inner, start)?, 1),
-        }
+        function_number(functions, start)
     }
 
     /// Where the values of the name that is this token stand.
@@ -75,16 +79,5 @@ fn name_vertex(alloc: Global, binding: Binding, name: &Text) -> Result<Option<Ve
         Binding::Wrapper(_) => Ok(None),
         Binding::Arguments(_) => Ok(None),
         Binding::Global => Ok(Some(Vertex::Global(name.copy(alloc)?))),
-    }
-}
-
-// How many functions start before the offset.
-fn count_before(functions: &[FunctionInfo], start: u32) -> Result<u32, OutOfMemory>
-    ensures { IfOk result (λ n. n ≡ count_by (λ f. nat_lt f.start start) functions.now) }
-{
-    let before = functions.iter().filter(|f| f.start < start).count();
-    match u32::try_from(before) {
-        Ok(count) => Ok(count),
-        Err(_) => Err(OutOfMemory),
     }
 }

@@ -4,7 +4,8 @@ ghost use Rattle.js_scopes.specs.Scopes as scopes;
 ghost use Rattle.flow_rules.specs.declared.vertex.Vertex.TheVariants as vertex;
 ghost use Rattle.flow_rules.specs.Flows as flows;
 ghost use Rattle.flow_rules.specs.Flows.{call_front, chain_requires, expr, plain_front, token_vertex};
-ghost use Rattle.flow_rules.specs.Gathering.{head_notes, known_in, seen_tails, with_uses};
+ghost use Rattle.js_scopes.specs.AtHand.{known_in};
+ghost use Rattle.flow_rules.specs.Gathering.{head_notes, seen_tails, with_uses};
 
 use crate::Vertex;
 use crate::facts::Facts;

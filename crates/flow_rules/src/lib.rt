@@ -2,17 +2,19 @@
 #![tactic(auto)]
 
 mod calls;
-mod constraints;
 mod facts;
 mod found;
 mod front;
+mod gather;
 mod heads;
 mod module;
+mod module_constraints;
 mod numbers;
 mod uses;
 mod vertex;
 mod walk;
 
-pub use constraints::Constraints;
+pub use gather::constraints;
 pub use module::{Flow, ModuleNote, NoteKind, Require};
+pub use module_constraints::Constraints;
 pub use vertex::Vertex;

@@ -8,6 +8,7 @@ ghost use Rattle.flow_rules.specs.Vertices.{vertex_key, flow_order};
 
 use crate::Vertex;
 use jam_base::Text;
+use js_scopes::Ranked;
 use std::cmp::Ordering;
 
 /// Each value at `from` comes to `to`.
@@ -55,6 +56,18 @@ impl Ord for Flow {
     }
 }
 
+impl Ranked for Flow {
+    ghost use Rattle.flow_rules.specs.Vertices.{flow_order as order_of};
+
+    ghost order = { order_of };
+
+    fn rank(&self, other: &Flow) -> Ordering {
+        self.cmp(other)
+    }
+
+    ghost total = { then_total (on_total (λ f. vertex_key f.from) nat_list_cmp_total) (on_total (λ f. vertex_key f.to) nat_list_cmp_total) };
+}
+
 /// A call of `require` with a string: the offset of its `(` in bytes, the string, and the number of the
 /// function that holds it.
 #[derive(Debug, Drop)]
@@ -62,6 +75,19 @@ pub struct Require {
     pub offset: u32,
     pub spec: Text,
     pub holder: u32,
+}
+
+impl Ranked for Require {
+    ghost use Rattle.flow_rules.specs.Flows.{require_order};
+    ghost use Rattle.std.specs.Cmp.{nat_cmp_total};
+
+    ghost order = { require_order };
+
+    fn rank(&self, other: &Require) -> Ordering {
+        self.offset.cmp(&other.offset)
+    }
+
+    ghost total = { on_total (λ r. r.offset) nat_cmp_total };
 }
 
 /// What was left out at a place of a module.
@@ -78,4 +104,17 @@ pub enum NoteKind {
 pub struct ModuleNote {
     pub offset: u32,
     pub kind: NoteKind,
+}
+
+impl Ranked for ModuleNote {
+    ghost use Rattle.flow_rules.specs.Flows.{note_order};
+    ghost use Rattle.std.specs.Cmp.{nat_cmp_total};
+
+    ghost order = { note_order };
+
+    fn rank(&self, other: &ModuleNote) -> Ordering {
+        self.offset.cmp(&other.offset)
+    }
+
+    ghost total = { on_total (λ n. n.offset) nat_cmp_total };
 }

@@ -4,7 +4,8 @@ ghost use Rattle.std.specs.Option.{IfSome};
 ghost use Rattle.js_tree.proofs.Folds.{map_tail};
 ghost use Rattle.js_scopes.specs.Scopes as scopes;
 ghost use Rattle.flow_rules.specs.Flows.{expr, call_notes, call_requires, chain_requires, first_notes, first_requires, first_string, is_module, name_flows, name_notes, arguments_flows};
-ghost use Rattle.flow_rules.specs.Gathering.{known_in, seen_arguments, seen_tails, with_flows, with_uses};
+ghost use Rattle.js_scopes.specs.AtHand.{known_in};
+ghost use Rattle.flow_rules.specs.Gathering.{seen_arguments, seen_tails, with_flows, with_uses};
 
 use crate::facts::Facts;
 use crate::found::Found;

@@ -5,7 +5,8 @@ ghost use Rattle.js_scopes.specs.Scopes.{Known, name_list};
 ghost use Rattle.flow_rules.specs.declared.vertex.Vertex.TheVariants as vertex;
 ghost use Rattle.flow_rules.specs.Flows as seen;
 ghost use Rattle.flow_rules.specs.Flows.{argument_values, flow, head_front, is_assignment, tails_front, token_vertex};
-ghost use Rattle.flow_rules.specs.Gathering.{Passes, PassesAll, PassesTails, declared, unnoted, known_in, seen_arguments, seen_slots, seen_stmts, seen_tails, with_flows};
+ghost use Rattle.js_scopes.specs.AtHand.{known_in};
+ghost use Rattle.flow_rules.specs.Gathering.{Passes, PassesAll, PassesTails, declared, unnoted, seen_arguments, seen_slots, seen_stmts, seen_tails, with_flows};
 
 use crate::Vertex;
 use crate::calls::push_unrequired;
@@ -107,7 +108,7 @@ fn walk_function(
             body,
             ..
         } => {
-            let number = facts.number(word.start)?;
+            let number = facts.number(word.start);
             push_own(alloc, facts, number, name, out)?;
             let next = walk_stmts(alloc, facts, body.body.as_slice(), n, number, out)?;
             Ok(next)
@@ -291,7 +292,7 @@ fn walk_expr(
         }
         Expr::Fun { function } => {
             let next = walk_function(alloc, facts, function.get(), n, out)?;
-            let number = facts.number(start_of(function.get()))?;
+            let number = facts.number(start_of(function.get()));
             Ok(Walked {
                 next,
                 value: Some(Vertex::Lit { function: number }),

@@ -3,7 +3,8 @@ use Rattle.js_tree.specs.declared.token.Token.{Token}
 use Rattle.js_tree.specs.declared.tree.Tail.{Tail}
 use Rattle.js_scopes.specs.Scopes.{Known}
 use Rattle.flow_rules.specs.Flows.{Flowing, chain_requires, expr}
-use Rattle.flow_rules.specs.Gathering.{Gathered, head_notes, known_in, seen_tails, with_uses}
+use Rattle.js_scopes.specs.AtHand.{known_in}
+use Rattle.flow_rules.specs.Gathering.{Gathered, head_notes, seen_tails, with_uses}
 use Rattle.flow_rules.proofs.Laws.{at-Assign, at-Chain, at-Value, at-Literal, at-Name}
 use Rattle.flow_rules.proofs.heads.push_head_uses.Goals as goal
 

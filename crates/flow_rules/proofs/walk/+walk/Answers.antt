@@ -20,7 +20,8 @@ use Rattle.flow_rules.specs.declared.front.Front.{Front}
 use Rattle.flow_rules.specs.declared.vertex.Vertex.TheVariants as vertex
 use Rattle.flow_rules.specs.Flows as seen
 use Rattle.flow_rules.specs.Flows.{Flowing, argument_values, call_flows, call_front, called_front, chain_requires, first_string, member_front, numbered_calls, flow, head_front, is_assignment, is_numbered, plain_front, slot_step, tails_front, token_vertex}
-use Rattle.flow_rules.specs.Gathering.{Gathered, Passes, PassesAll, PassesTails, calls_behind, declared, head_notes, known_in, seen_arguments, seen_slots, seen_stmts, seen_tails, unnoted, with_flows, with_uses}
+use Rattle.js_scopes.specs.AtHand.{known_in}
+use Rattle.flow_rules.specs.Gathering.{Gathered, Passes, PassesAll, PassesTails, calls_behind, declared, head_notes, seen_arguments, seen_slots, seen_stmts, seen_tails, unnoted, with_flows, with_uses}
 use Rattle.flow_rules.proofs.Laws.{at-Assign, at-Chain, at-Value, at-Literal, at-Name, at-Keyword, at-Target, at-Member, at-Slot, at-Fun, at-Plain, at-Vars}
 use Rattle.flow_rules.proofs.WalkLemmas.{item_at, falls_within, passes_at, nothing_passes, name_passes, target_passes, written_passes, head_passes, assign_passes, function_passes, bare_passes, slot_passes, none_pass, pass_on, no_tails_pass, call_passes, chain_passes, chain_notes_are, member_left, member_passes, called_member, left_behind, numbered_behind}
 use Rattle.flow_rules.proofs.walk.+walk.Goals as goal
@@ -267,8 +268,8 @@ walk_expr-returns-in_ok-walked-in-Chain-clause-value t c =
     ∙ ap (λ z. (tails_front n (head_front known z head) tails).value) start_is
     ∙ sym (ap (λ (x : Flowing). x.value known n) law)
 
-pub walk_expr-returns-in_ok-number-in-Fun-clause-passes : goal.walk_expr-returns-in_ok-number-in-Fun-clause-passes
-walk_expr-returns-in_ok-number-in-Fun-clause-passes t c =
+pub walk_expr-returns-in_ok-next-in-Fun-clause-passes : goal.walk_expr-returns-in_ok-next-in-Fun-clause-passes
+walk_expr-returns-in_ok-next-in-Fun-clause-passes t c =
     let known : Known = known_in c.args.facts.now in
     let n : ℕ = c.args.n in
     let h : ℕ = c.args.holder in
@@ -278,12 +279,12 @@ walk_expr-returns-in_ok-number-in-Fun-clause-passes t c =
     subst (λ (x : Function). Passes known n h (declared (seen.function x)) c.args.out.now c.walk_function.new.out next) c.get-in-Fun.ensures (c.in_ok-next-in-Fun.ensures h) in
     passes_at known n h _ _ c.args.out.now c.walk_function.new.out next law (record { next_is = p.next_is; found = p.found })
 
-pub walk_expr-returns-in_ok-number-in-Fun-clause-value : goal.walk_expr-returns-in_ok-number-in-Fun-clause-value
-walk_expr-returns-in_ok-number-in-Fun-clause-value t c =
+pub walk_expr-returns-in_ok-next-in-Fun-clause-value : goal.walk_expr-returns-in_ok-next-in-Fun-clause-value
+walk_expr-returns-in_ok-next-in-Fun-clause-value t c =
     let known : Known = known_in c.args.facts.now in
     let n : ℕ = c.args.n in
     let law = ap seen.expr c.in-Fun.is ∙ at-Value c.in-Fun.function in
-    ap (λ z. Some (vertex.Lit z)) c.in_ok-number-in-Fun.ensures ∙ sym (c.start_of.ensures known n)
+    ap (λ z. Some (vertex.Lit z)) c.number-number.ensures ∙ sym (c.start_of.ensures known n)
     ∙ ap (λ (x : Function). (seen.function x).value known n) c.get-in-Fun-2.ensures ∙ sym (ap (λ (s : Flowing). s.value known n) law)
 
 pub walk_expr-returns-in-Literal-clause-passes : goal.walk_expr-returns-in-Literal-clause-passes
@@ -321,8 +322,8 @@ walk_function-returns t c holder = by_kind (function_kind c.args.function.now)
     by_kind (IsKeyword word name params body e) =
         let known : Known = known_in c.args.facts.now in
         let n : ℕ = c.args.n in
-        let number = c.in_ok-number.number in
-        let en : number ≡ known.number word.start = c.in_ok-number.ensures ∙ ap (λ v. known.number v.0.start) (ap (values_d enum 0 _) e ∙ values_d_at enum 0 _ (word, (name, (params, (body, tt))))) in
+        let number = c.number-number.result in
+        let en : number ≡ known.number word.start = c.number-number.ensures ∙ ap (λ v. known.number v.0.start) (ap (values_d enum 0 _) e ∙ values_d_at enum 0 _ (word, (name, (params, (body, tt))))) in
         let eo : c.push_own.new.out ≡ with_flows c.args.out.now (flat_map (λ x. flow (Some (vertex.Lit number)) (token_vertex known x)) (name_list name)) =
         c.in_ok-push_own.ensures ∙ ap (λ v. with_flows c.args.out.now (flat_map (λ x. flow (Some (vertex.Lit number)) (token_vertex known x)) (name_list v.1.0))) (ap (values_d enum 0 _) e ∙ values_d_at enum 0 _ (word, (name, (params, (body, tt))))) in
         let eb : c.as_slice.result.now ≡ body.body = c.as_slice.ensures ∙ ap (λ v. v.1.1.1.0.body) (ap (values_d enum 0 _) e ∙ values_d_at enum 0 _ (word, (name, (params, (body, tt))))) in

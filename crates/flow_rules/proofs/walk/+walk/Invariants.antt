@@ -1,6 +1,7 @@
 use Rattle.std.proofs.Common.{◌≡◌, ℕ, ◌+◌, ◌*◌, ◌++◌, drop}
 use Rattle.flow_rules.specs.Flows.{argument_values, is_numbered, tails_front}
-use Rattle.flow_rules.specs.Gathering.{Gathered, PassesAll, PassesTails, calls_behind, known_in, seen_arguments, seen_slots, seen_stmts, seen_tails}
+use Rattle.js_scopes.specs.AtHand.{known_in}
+use Rattle.flow_rules.specs.Gathering.{Gathered, PassesAll, PassesTails, calls_behind, seen_arguments, seen_slots, seen_stmts, seen_tails}
 use Rattle.flow_rules.proofs.walk.+walk.Given as goal
 
 abbrev pub invariant-walk_stmts-loop-statement : goal.invariant-walk_stmts-loop-statement
