@@ -5,7 +5,6 @@ ghost use Rattle.js_tree.specs.declared.kind.TheConstants as kinds;
 ghost use Rattle.js_tree.specs.declared.tree.Expr.{Expr};
 ghost use Rattle.js_tree.specs.Spelling as spec;
 ghost use Rattle.js_parser.specs.Heads as heads;
-ghost use Rattle.js_parser.specs.Nodes as nodes;
 ghost use Rattle.js_parser.specs.Nodes.{DoneAt, Continues, OnlyContinued};
 ghost use Rattle.js_parser.specs.Reading.{Read, OnlyRead, Anywhere, Moves, Sees};
 

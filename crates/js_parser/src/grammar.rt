@@ -1,6 +1,6 @@
 //! The rules of the grammar that have statements in them (ECMA-262, clauses 13 to 15). They take the parser of the
 //! statements in a node as a parameter, so that each rule is proved by itself.
-ghost use Rattle.std.specs.Prelude.{◌≡◌, ◌≤◌, ◌<◌, false, IfOk, Option, is_some, length, MatchBool, ◌⊎◌};
+ghost use Rattle.std.specs.Prelude.{◌≡◌, ◌≤◌, ◌<◌, IfOk, Option, is_some, length, MatchBool, ◌⊎◌};
 ghost use Rattle.js_tree.specs.declared.form.Form.{Form};
 ghost use Rattle.js_tree.specs.declared.kind.TheConstants as kinds;
 ghost use Rattle.js_tree.specs.declared.token.Token.{Token};
@@ -12,7 +12,6 @@ ghost use Rattle.js_tree.specs.declared.tree.Stmt.{Stmt};
 ghost use Rattle.js_tree.specs.Lexing.{IsTrivia};
 ghost use Rattle.js_tree.specs.Spelling as spec;
 ghost use Rattle.js_parser.specs.declared.tall.Tall.{Tall};
-ghost use Rattle.js_parser.specs.Heads as heads;
 ghost use Rattle.js_parser.specs.Nodes as nodes;
 ghost use Rattle.js_parser.specs.Nodes.{Knot, BlockAt, FunctionAt, DoneAt, StmtAt, StmtsAt, Continues, OnlyContinued};
 ghost use Rattle.js_parser.specs.Reading.{Read, OnlyRead, Anywhere, Moves, Sees};

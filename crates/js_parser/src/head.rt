@@ -3,7 +3,6 @@ ghost use Rattle.std.specs.Prelude.{◌≡◌, ◌<◌, ◌≤◌, false, IfOk, 
 ghost use Rattle.std.specs.Str.{bytes_eq};
 ghost use Rattle.js_parser.specs.Heads as heads;
 ghost use Rattle.js_parser.specs.Reading.{Read, OnlyRead, Any, Anywhere, Moves};
-ghost use Rattle.js_parser.specs.declared.path.Head.{Head};
 ghost use Rattle.js_parser.specs.declared.path.Member.{Member};
 
 use crate::fault::ParseFault;
