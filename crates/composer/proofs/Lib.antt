@@ -4,6 +4,7 @@ pub mod LeastSolution
 pub mod Members
 pub mod NumberLemmas
 pub mod OneList
+pub mod OrderLemmas
 pub mod PlaceLemmas
 pub mod Renamed
 pub mod RoomLemmas

@@ -32,13 +32,20 @@ pub fn constraints(
     let requires_ = ascending(alloc, requires_)?;
     let notes = ascending(alloc, notes)?;
     let flows = ascending(alloc, flows)?;
-    Ok(Constraints::of(
+    let made = Constraints::of(
         functions,
         sites,
         List::of(requires_),
         List::of(notes),
         List::of(flows),
-    ))
+    );
+    match made {
+        Some(made) => Ok(made),
+        // A list has 2^32 items, or a text 2^32 bytes, or two calls of the tree have one offset and not
+        // as many arguments (a parsed text has one `(` at an offset). That the lists of every other
+        // tree keep the rules is not proved.
+        None => Err(OutOfMemory),
+    }
 }
 
 // The flows, requires and notes of a tree with these functions, the module's body first.

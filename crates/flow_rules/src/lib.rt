@@ -10,6 +10,7 @@ mod heads;
 mod module;
 mod module_constraints;
 mod numbers;
+mod rules;
 mod uses;
 mod vertex;
 mod walk;
