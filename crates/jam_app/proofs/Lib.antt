@@ -1,5 +1,9 @@
+pub mod Bad
 pub mod Causes
 pub mod Ends
+pub mod Following
+pub mod Keeping
 pub mod Pieces
 pub mod Refusing
 pub mod Sizes
+pub mod Targets
