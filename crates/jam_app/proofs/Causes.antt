@@ -23,6 +23,10 @@ pub both_told : {P Q R : Files → Type 0} (files : Option Files) → IfSome fil
 both_told None p q f = tt
 both_told (Some m) p q f = f m p q
 
+pub any_files : {P : Files → Type 0} (files : Option Files) → ((m : Files) → P m) → IfSome files P
+any_files None f = tt
+any_files (Some m) f = f m
+
 -- a count that rose after another call rose
 pub rose_later : (before mid now : ℕ) → before ≤ mid → Rose mid now → Rose before now
 rose_later before mid now later rose = omega (arith, later, rose)

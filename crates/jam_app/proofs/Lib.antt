@@ -5,5 +5,9 @@ pub mod Following
 pub mod Keeping
 pub mod Pieces
 pub mod Refusing
+pub mod RoundLemmas
 pub mod Sizes
+pub mod Standing
+pub mod Steps
 pub mod Targets
+pub mod Whole
