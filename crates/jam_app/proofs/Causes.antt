@@ -1,5 +1,6 @@
 -- Stops and their causes, over a folder that may tell its files.
-use Rattle.std.proofs.Common.{◌≡◌, ℕ, ◌+◌, ◌≤◌, List, ap, sym, subst, ◌∙◌, arith, Option, Some, None}
+use Rattle.std.proofs.Common.{◌≡◌, ℕ, ◌+◌, ◌≤◌, List, ap, sym, subst, ◌∙◌, arith, Option, Some, None, Result, Ok, Err}
+use Rattle.std.specs.Result.{IsErrAnd}
 use Rattle.std.specs.Option.{IfSome}
 use Rattle.jam_base.specs.Causes.{Rose}
 use Rattle.jam_base.specs.Files.{Files}
@@ -11,7 +12,7 @@ use Rattle.jam_app.specs.declared.stop.Stop.{Stop}
 use Rattle.jam_app.specs.declared.stop.Stop.TheVariants.{ReadFault, OutOfMemory, Refused}
 use Rattle.jam_app.specs.Entries.{entry_path, module_path}
 use Rattle.jam_app.specs.Refusals.{IsRefusal, no_entry}
-use Rattle.jam_app.specs.Work.{HasStopCause}
+use Rattle.jam_app.specs.Work.{Gives, HasStopCause}
 
 -- what follows from one fact, or from two, of the files that a folder may tell
 pub told : {P Q : Files → Type 0} (files : Option Files) → IfSome files P → ((m : Files) → P m → Q m) → IfSome files Q
@@ -22,14 +23,18 @@ pub both_told : {P Q R : Files → Type 0} (files : Option Files) → IfSome fil
 both_told None p q f = tt
 both_told (Some m) p q f = f m p q
 
+pub any_files : {P : Files → Type 0} (files : Option Files) → ((m : Files) → P m) → IfSome files P
+any_files None f = tt
+any_files (Some m) f = f m
+
 -- a count that rose after another call rose
 pub rose_later : (before mid now : ℕ) → before ≤ mid → Rose mid now → Rose before now
 rose_later before mid now later rose = omega (arith, later, rose)
 
 -- a stop after an earlier call has its cause over both
-pub stop_after : {P Q : Files → Refusal → Type 0} (first files : Option Files) (before mid now : ℕ) (stop : Stop) → files ≡ first → before ≤ mid
+pub stop_after : (P Q : Files → Refusal → Type 0) (first files : Option Files) (before mid now : ℕ) (stop : Stop) → files ≡ first → before ≤ mid
     → IfSome first (λ m. (owed : Refusal) → P m owed → Q m owed) → HasStopCause P files mid now stop → HasStopCause Q first before now stop
-stop_after {P} {Q} first files before mid now stop same later means cause =
+stop_after P Q first files before mid now stop same later means cause =
     by stop (subst (λ (fs : Option Files). HasStopCause P fs mid now stop) same cause)
   where
     by : (s : Stop) → HasStopCause P first mid now s → HasStopCause Q first before now s
@@ -41,3 +46,10 @@ stop_after {P} {Q} first files before mid now stop same later means cause =
 pub no_module : (operand : List ℕ) (files : Option Files) (found : Target) (path : Option (List ℕ)) → IfSome files (λ m. found ≡ entry_target m (Some operand))
     → path ≡ module_path found → path ≡ None → IfSome files (λ m. IsRefusal operand m refusal.NoEntry)
 no_module operand files found path is named none = told files is (λ m e. no_entry (ap module_path (sym e) ∙ sym named ∙ none))
+
+-- a stop that is handed on
+pub handed_on : {X : Type 0} (owed : Files → X → Type 0) (P Q : Files → Refusal → Type 0) (first files : Option Files) (before mid now : ℕ) (stop : Stop) (result : Result X Stop)
+    → IsErrAnd result (λ e. e ≡ stop) → files ≡ first → before ≤ mid → IfSome first (λ m. (r : Refusal) → P m r → Q m r) → HasStopCause P files mid now stop → Gives owed Q first before now result
+handed_on owed P Q first files before mid now stop (Err e) is same later means cause =
+    subst (HasStopCause Q first before now) (sym is) (stop_after P Q first files before mid now stop same later means cause)
+handed_on owed P Q first files before mid now stop (Ok x) is same later means cause = absurd is

@@ -1,6 +1,7 @@
 //! The modules of a round.
-ghost use Rattle.std.specs.Prelude.{◌≡◌, ◌≤◌, ℕ, length, map, All, IfOk, IfSome};
+ghost use Rattle.std.specs.Prelude.{◌≡◌, ◌≤◌, ◌++◌, map, All, IfOk, OnOk};
 ghost use Rattle.std.specs.List.{filter_map};
+ghost use Rattle.std.specs.Option.{option_to_list};
 ghost use Rattle.flow_rules.specs.Flows.{constraints_of};
 ghost use Rattle.jam_app.specs.Progress as progress;
 ghost use Rattle.jam_app.specs.Progress.{HasBad, IsRead, IsRefusedFor, source_of};
@@ -41,6 +42,16 @@ fn led_by<F: Folder>(
     }
 }
 
+// Adds where a require leads, if to a module.
+fn push_led(targets: &mut Vec<Led>, led: Option<Led>) -> Result<(), OutOfMemory>
+    ensures { OnOk result (targets.new.items ≡ targets.old.items ++ option_to_list led) }
+{
+    if let Some(led) = led {
+        targets.push(led)?;
+    }
+    Ok(())
+}
+
 // Where the requires lead that lead to modules.
 fn targets_of<F: Folder>(
     alloc: Global,
@@ -55,9 +66,8 @@ fn targets_of<F: Folder>(
 {
     let mut targets = Vec::new(alloc);
     for require in requires_ {
-        if let Some(led) = led_by(alloc, folder, from, require)? {
-            targets.push(led)?;
-        }
+        let led = led_by(alloc, folder, from, require)?;
+        push_led(&mut targets, led)?;
     }
     Ok(targets)
 }

@@ -2,6 +2,8 @@
 ghost use Rattle.std.specs.Prelude.{◌≡◌, ◌↔◌, ◌≤◌, ◌+◌, ◌++◌, ◌⊎◌, ℕ, List, length, map, All, Contains, IfOk, OnOk, IsSome, Some};
 ghost use Rattle.std.specs.List.{flat_map};
 ghost use Rattle.std.specs.BTreeMap as tree;
+ghost use Rattle.std.specs.Cmp.Lexicographic.{slice_cmp};
+ghost use Rattle.std.specs.Ordering.{nat_cmp};
 ghost use Rattle.jam_app.specs.declared.loaded.Loaded.{Loaded as AnyLoaded};
 ghost use Rattle.jam_app.specs.Loading.{IsWhole};
 ghost use Rattle.jam_app.specs.Progress.{Stands, found_at, led_from};
@@ -51,6 +53,18 @@ fn required_by(alloc: Global, modules: &[Loaded]) -> Result<Vec<ModulePath>, Out
     Ok(paths)
 }
 
+// Keeps a module under a path.
+fn put(
+    kept: &mut BTreeMap<ModulePath, Loaded>,
+    path: ModulePath,
+    loaded: Loaded,
+) -> Result<(), OutOfMemory>
+    ensures { OnOk result (tree.Updates (slice_cmp nat_cmp) kept.old kept.new path (Some loaded)) }
+{
+    kept.insert(path, loaded)?;
+    Ok(())
+}
+
 // Keeps the modules under their paths.
 fn keep(
     alloc: Global,
@@ -62,7 +76,7 @@ fn keep(
 {
     for module in modules {
         let path = module.path.copy(alloc)?;
-        kept.insert(path, module)?;
+        put(kept, path, module)?;
     }
     Ok(())
 }

@@ -1,0 +1,16 @@
+use Rattle.std.proofs.Common.{◌≡◌, ◌≤◌, ◌-◌}
+use Rattle.std.specs.Option.{IfSome}
+use Rattle.jam_app.specs.Progress.{Stands}
+use Rattle.jam_app.proofs.rounds.load.Given as goal
+
+abbrev pub invariant-loop-round : goal.invariant-loop-round
+invariant-loop-round g l = record {
+  stands : IfSome (g.F.Folder.files l.fn.folder) (λ m. Stands l.operand m l.progress l.round.items);
+  modules : l.progress.size.modules ≤ 16384;
+  bytes : l.progress.size.bytes ≤ 67108864;
+  same : g.F.Folder.files l.folder ≡ g.F.Folder.files l.fn.folder;
+  later : g.F.Folder.faults l.fn.folder ≤ g.F.Folder.faults l.folder;
+}
+
+abbrev pub decreases-loop-round : goal.decreases-loop-round
+decreases-loop-round g l = 16384 - l.progress.size.modules
