@@ -3,8 +3,9 @@ use flow_rules::{Constraints, Flow, ModuleNote, NoteKind, Require, Vertex};
 use js_scopes::{FunctionInfo, SiteInfo};
 use std::alloc::{AllocError, Global};
 
-/// A line for each list that isn't empty, with its items between commas: functions as START/PARAMS NAME, sites
-/// as OFFSET.PART hHOLDER aARGS, requires as OFFSET SPEC hHOLDER, notes as OFFSET KIND and flows as FROM -> TO.
+/// A line for each list that isn't empty, with its items between commas: functions as START/PARAMS NAME,
+/// sites as OFFSET.PART hHOLDER aARGS, requires as OFFSET SPEC hHOLDER, notes as OFFSET KIND and flows as
+/// FROM -> TO.
 pub(crate) fn lines_of(alloc: Global, made: &Constraints) -> Result<String, AllocError> {
     let mut out = String::new(alloc);
     push_functions(&mut out, made.functions())?;

@@ -22,4 +22,6 @@ mod constraints_lines;
 #[cfg(test)]
 mod constraints_tests;
 #[cfg(test)]
+mod member_tests;
+#[cfg(test)]
 mod tests;
