@@ -11,7 +11,7 @@ use crate::facts::Facts;
 use crate::found::Found;
 use crate::walk::walk_stmts;
 use jam_base::{List, OutOfMemory};
-use js_scopes::{Bindings, FunctionInfo, ascending, functions, sites};
+use js_scopes::{Bindings, FunctionInfo, ascending, functions, sites_with};
 use js_tree::Tree;
 use std::alloc::Global;
 
@@ -26,7 +26,7 @@ pub fn constraints(
     ensures { IfOk result (λ made. made ≡ constraints_of tree.now) }
 {
     let functions = functions(alloc, tree)?;
-    let sites = sites(alloc, tree, bindings)?;
+    let sites = sites_with(alloc, tree, bindings)?;
     let found = found_in(alloc, tree, bindings, functions.as_slice())?;
     let (flows, requires_, notes) = found.into_parts();
     let requires_ = ascending(alloc, requires_)?;
