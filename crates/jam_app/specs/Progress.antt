@@ -9,6 +9,7 @@ use Rattle.flow_rules.specs.declared.module.Require.{Require}
 use Rattle.node_resolve.specs.Targets.{target_of}
 use Rattle.jam_app.specs.declared.loaded.Led.{Led}
 use Rattle.jam_app.specs.declared.loaded.Loaded.{Loaded}
+use Rattle.jam_app.specs.declared.module.Parsed.{Parsed}
 use Rattle.jam_app.specs.declared.refusal.Refusal.{Refusal}
 use Rattle.jam_app.specs.declared.refusal.Refusal.TheVariants as refusal
 use Rattle.jam_app.specs.declared.rounds.Progress.{Progress}
@@ -58,6 +59,10 @@ pub record HasBad (sources : List Source) (owed : Refusal) : Type 0 where
   pub parts : sources ≡ front ++ source ∷ behind
   pub none_bad : All (λ s. IsBad s.bytes.items → ⊥) front
   pub refused : IsRefusedFor source.path source.bytes.items owed
+
+-- the tree is the only one of the text
+abbrev pub IsParsed : Parsed → Type 0
+IsParsed p = IsOnlyTree p.source.bytes.items p.tree
 
 -- where a require leads, if to a module
 abbrev pub led_to : ℕ → Option (List ℕ) → Option Led

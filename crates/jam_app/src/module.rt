@@ -2,11 +2,11 @@
 ghost use Rattle.std.specs.Prelude.{◌≡◌, ◌≤◌, ◌++◌, map, All, IfOk, OnOk};
 ghost use Rattle.std.specs.List.{filter_map};
 ghost use Rattle.std.specs.Option.{option_to_list};
+ghost use Rattle.jam_base.specs.Files.{Files};
 ghost use Rattle.flow_rules.specs.Flows.{constraints_of};
 ghost use Rattle.jam_app.specs.Progress as progress;
-ghost use Rattle.jam_app.specs.Progress.{HasBad, IsRead, IsRefusedFor, source_of};
-ghost use Rattle.jam_app.specs.Texts.{IsOnlyTree};
-ghost use Rattle.jam_app.specs.Work.{Gives, stop_of};
+ghost use Rattle.jam_app.specs.Progress.{HasBad, IsParsed, IsRead, IsRefusedFor, source_of};
+ghost use Rattle.jam_app.specs.Work.{Gives, HasStopCause, stop_of};
 
 use crate::loaded::{Led, Loaded};
 use crate::source::{Source, module_path};
@@ -94,21 +94,56 @@ fn stop_for(path: ModulePath, bad: Bad) -> Stop
     }
 }
 
-// The module of a file with this tree.
-fn module_with<F: Folder>(
-    alloc: Global,
-    folder: &mut F,
+// A file, and the tree of its text.
+#[derive(Drop)]
+struct Parsed {
     source: Source,
     tree: Tree,
-) -> Result<Loaded, Stop>
-    requires { IsOnlyTree source.bytes.items tree }
-    ensures gives { Gives (λ m l. (source_of l ≡ source) × IsRead m l)
+}
+
+// The tree of a file.
+fn parsed_file<L: Ledger>(
+    alloc: Global,
+    source: Source,
+    steps: &mut Steps<L>,
+) -> Result<Parsed, Stop>
+    ensures ok { IfOk result (λ p. (p.source ≡ source) × IsParsed p) }
+    ensures err { IfErr result (λ stop. (files : Option Files) (before now : ℕ) → HasStopCause (λ m owed. IsRefusedFor source.path source.bytes.items owed) files before now stop) }
+{
+    match tree_of(alloc, source.bytes.as_slice(), steps) {
+        Ok(tree) => Ok(Parsed { source, tree }),
+        Err(bad) => Err(stop_for(source.path, bad)),
+    }
+}
+
+// The trees of the files of a round, in their order.
+fn parsed_round<L: Ledger>(
+    alloc: Global,
+    sources: Vec<Source>,
+    steps: &mut Steps<L>,
+) -> Result<Vec<Parsed>, Stop>
+    ensures ok { IfOk result (λ made. (map (λ p. p.source) made.items ≡ sources.items) × All IsParsed made.items) }
+    ensures err { IfErr result (λ stop. (files : Option Files) (before now : ℕ) → HasStopCause (λ m owed. HasBad sources.items owed) files before now stop) }
+{
+    let mut made = Vec::new(alloc);
+    for source in sources {
+        made.push(parsed_file(alloc, source, steps)?)?;
+    }
+    Ok(made)
+}
+
+// The module of a file with a tree.
+fn module_with<F: Folder>(alloc: Global, folder: &mut F, parsed: Parsed) -> Result<Loaded, Stop>
+    requires { IsParsed parsed }
+    ensures gives { Gives (λ m l. (source_of l ≡ parsed.source) × IsRead m l)
         (λ m owed. ⊥) (F.files folder.old) (F.faults folder.old) (F.faults folder.new) result }
     ensures same { F.files folder.new ≡ F.files folder.old }
     ensures later { F.faults folder.old ≤ F.faults folder.new }
 {
-    let constraints = constraints_in(alloc, &tree)?;
-    let targets = targets_of(alloc, folder, &source.path, constraints.requires_())?;
+    let constraints = constraints_in(alloc, &parsed.tree)?;
+    let requires_ = constraints.requires_();
+    let targets = targets_of(alloc, folder, &parsed.source.path, requires_)?;
+    let Parsed { source, tree } = parsed;
     let Source { path, bytes } = source;
     Ok(Loaded {
         path,
@@ -119,25 +154,8 @@ fn module_with<F: Folder>(
     })
 }
 
-// The module of a file.
-fn module_of<F: Folder, L: Ledger>(
-    alloc: Global,
-    folder: &mut F,
-    source: Source,
-    steps: &mut Steps<L>,
-) -> Result<Loaded, Stop>
-    ensures gives { Gives (λ m l. (source_of l ≡ source) × IsRead m l)
-        (λ m owed. IsRefusedFor source.path source.bytes.items owed) (F.files folder.old) (F.faults folder.old) (F.faults folder.new) result }
-    ensures same { F.files folder.new ≡ F.files folder.old }
-    ensures later { F.faults folder.old ≤ F.faults folder.new }
-{
-    match tree_of(alloc, source.bytes.as_slice(), steps) {
-        Ok(tree) => module_with(alloc, folder, source, tree),
-        Err(bad) => Err(stop_for(source.path, bad)),
-    }
-}
-
-/// The modules of the files of a round, in their order.
+/// The modules of the files of a round, in their order: first the trees of all their texts are found,
+/// then where their requires lead.
 pub(crate) fn modules_of<F: Folder, L: Ledger>(
     alloc: Global,
     folder: &mut F,
@@ -149,9 +167,25 @@ pub(crate) fn modules_of<F: Folder, L: Ledger>(
     ensures same { F.files folder.new ≡ F.files folder.old }
     ensures later { F.faults folder.old ≤ F.faults folder.new }
 {
+    let parsed = parsed_round(alloc, sources, steps)?;
+    resolved_round(alloc, folder, parsed)
+}
+
+// The modules of a round, whose texts have these trees.
+fn resolved_round<F: Folder>(
+    alloc: Global,
+    folder: &mut F,
+    round: Vec<Parsed>,
+) -> Result<Vec<Loaded>, Stop>
+    requires { All IsParsed round.items }
+    ensures gives { Gives (λ m modules. (map source_of modules.items ≡ map (λ p. p.source) round.items) × All (IsRead m) modules.items)
+        (λ m owed. ⊥) (F.files folder.old) (F.faults folder.old) (F.faults folder.new) result }
+    ensures same { F.files folder.new ≡ F.files folder.old }
+    ensures later { F.faults folder.old ≤ F.faults folder.new }
+{
     let mut modules = Vec::new(alloc);
-    for source in sources {
-        let module = module_of(alloc, folder, source, steps)?;
+    for parsed in round {
+        let module = module_with(alloc, folder, parsed)?;
         modules.push(module)?;
     }
     Ok(modules)
