@@ -12,7 +12,9 @@ use Rattle.jam_app.specs.declared.stop.Stop.{Stop}
 use Rattle.jam_app.specs.declared.stop.Stop.TheVariants.{ReadFault, OutOfMemory, Refused}
 use Rattle.jam_app.specs.Entries.{entry_path, module_path}
 use Rattle.jam_app.specs.Refusals.{IsRefusal, no_entry}
-use Rattle.jam_app.specs.Work.{Gives, HasStopCause}
+use Rattle.jam_app.specs.declared.status.Status.{Status}
+use Rattle.jam_app.specs.Outcomes.{RefusesAlways}
+use Rattle.jam_app.specs.Work.{Gives, HasStopCause, IsOwed}
 
 -- what follows from one fact, or from two, of the files that a folder may tell
 pub told : {P Q : Files → Type 0} (files : Option Files) → IfSome files P → ((m : Files) → P m → Q m) → IfSome files Q
@@ -53,3 +55,7 @@ pub handed_on : {X : Type 0} (owed : Files → X → Type 0) (P Q : Files → Re
 handed_on owed P Q first files before mid now stop (Err e) is same later means cause =
     subst (HasStopCause Q first before now) (sym is) (stop_after P Q first files before mid now stop same later means cause)
 handed_on owed P Q first files before mid now stop (Ok x) is same later means cause = absurd is
+
+-- where a text is owed, no refusal is, so any status will do
+pub refuses_none : (status : Status) (operand text : List ℕ) (files : Option Files) → IfSome files (λ m. IsOwed operand m text) → IfSome files (λ m. RefusesAlways status operand m)
+refuses_none status operand text files is = told files is (λ m owed refusal refused. absurd (owed.unrefused refusal refused))

@@ -5,7 +5,7 @@ use Rattle.std.specs.Prelude.{◌↔◌, All, Contains, IsSome}
 use Rattle.std.specs.BTreeMap as tree
 use Rattle.std.specs.BTreeMap.{BTreeMap, IsOrdered}
 use Rattle.std.specs.Cmp.Lexicographic.{slice_cmp, nat_list_cmp_total}
-use Rattle.std.specs.Map.{keys_of, values_of}
+use Rattle.std.specs.Map.{keys_of, lookup, values_of}
 use Rattle.std.specs.Ordering.{nat_cmp}
 use Rattle.std.proofs.lemmas.Bool.{cases_lt}
 use Rattle.std.proofs.lemmas.List.{append_assoc}
@@ -46,7 +46,7 @@ stands_first m operand entry progress found empty size = record {
 }
   where
     held_in : List ℕ → List (List ℕ × Loaded) → Option Loaded
-    held_in path es = found_at (record { entries = es }) path
+    held_in path es = lookup (tree.is_at (slice_cmp nat_cmp path)) es
 
     is_held : List ℕ → List (List ℕ × Loaded) → Bool
     is_held path es = is_some (held_in path es)

@@ -10,7 +10,8 @@ use Rattle.jam_app.specs.declared.refusal.Refusal.TheVariants as refusal
 use Rattle.jam_app.specs.declared.text.Bad.{Bad}
 use Rattle.jam_app.specs.declared.text.Bad.TheVariants as bad
 use Rattle.jam_app.specs.Texts.{IsBad}
-use Rattle.jam_app.specs.Refusals.{IsRefusedAt}
+use Rattle.jam_app.specs.Graphs.{IsGraphText}
+use Rattle.jam_app.specs.Refusals.{IsRefusal, IsRefusedAt}
 
 -- a stop has its cause: the count rose, or the files give the refusal
 abbrev pub HasStopCause : (Files → Refusal → Type 0) → Option Files → ℕ → ℕ → Stop → Type 0
@@ -22,6 +23,11 @@ HasStopCause refused files before now (Refused refusal place) = IfSome files (λ
 abbrev pub Gives : {X : Type 0} → (Files → X → Type 0) → (Files → Refusal → Type 0) → Option Files → ℕ → ℕ → Result X Stop → Type 0
 Gives owed refused files before now (Ok x) = IfSome files (λ m. owed m x)
 Gives owed refused files before now (Err stop) = HasStopCause refused files before now stop
+
+-- the text is owed for the operand, and no refusal is
+pub record IsOwed (operand : List ℕ) (files : Files) (text : List ℕ) : Type 0 where
+  pub graph : IsGraphText operand files text
+  pub unrefused : (owed : Refusal) → IsRefusal operand files owed → ⊥
 
 -- why a file has no tree: it is too large, none spells its text, which reading left at the offset, or memory ran out
 abbrev pub HasBadCause : List ℕ → Bad → Type 0

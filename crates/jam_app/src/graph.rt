@@ -1,8 +1,7 @@
 //! The call graph of an application, as text.
 ghost use Rattle.std.specs.Prelude.{◌≡◌, ◌≤◌};
-ghost use Rattle.jam_app.specs.Graphs.{IsGraphText};
 ghost use Rattle.jam_app.specs.Refusals.{IsRefusal};
-ghost use Rattle.jam_app.specs.Work.{Gives};
+ghost use Rattle.jam_app.specs.Work.{Gives, IsOwed};
 
 use crate::Stop;
 use crate::edges::printed_edges;
@@ -18,7 +17,7 @@ pub(crate) fn graph<F: Folder, L: Ledger>(
     operand: &str,
     steps: &mut Steps<L>,
 ) -> Result<Text, Stop>
-    ensures gives { Gives (λ m text. IsGraphText operand.now m text) (IsRefusal operand.now)
+    ensures gives { Gives (λ m text. IsOwed operand.now m text) (IsRefusal operand.now)
         (F.files folder.old) (F.faults folder.old) (F.faults folder.new) result }
     ensures same { F.files folder.new ≡ F.files folder.old }
     ensures later { F.faults folder.old ≤ F.faults folder.new }

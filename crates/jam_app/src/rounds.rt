@@ -133,7 +133,8 @@ fn by_path(
     alloc: Global,
     modules: BTreeMap<ModulePath, Loaded>,
 ) -> Result<Vec<Loaded>, OutOfMemory>
-    ensures { IfOk result (λ listed. listed.items ≡ tree.values modules) }
+    ensures listed { IfOk result (λ listed. listed.items ≡ tree.values modules) }
+    ensures ordered { OnOk result (tree.IsOrdered (slice_cmp nat_cmp) modules) }
 {
     let mut listed = Vec::new(alloc);
     for (_, module) in modules {

@@ -3,8 +3,8 @@ use Rattle.std.specs.Option.{IfSome}
 use Rattle.jam_app.specs.Progress.{Stands}
 use Rattle.jam_app.proofs.rounds.load.Given as goal
 
-abbrev pub invariant-loop-round : goal.invariant-loop-round
-invariant-loop-round g l = record {
+abbrev pub invariant-loop-alloc : goal.invariant-loop-alloc
+invariant-loop-alloc g l = record {
   stands : IfSome (g.F.Folder.files l.fn.folder) (λ m. Stands l.operand m l.progress l.round.items);
   modules : l.progress.size.modules ≤ 16384;
   bytes : l.progress.size.bytes ≤ 67108864;
@@ -12,5 +12,5 @@ invariant-loop-round g l = record {
   later : g.F.Folder.faults l.fn.folder ≤ g.F.Folder.faults l.folder;
 }
 
-abbrev pub decreases-loop-round : goal.decreases-loop-round
-decreases-loop-round g l = 16384 - l.progress.size.modules
+abbrev pub decreases-loop-alloc : goal.decreases-loop-alloc
+decreases-loop-alloc g l = 16384 - l.progress.size.modules
