@@ -1,17 +1,20 @@
 -- Modules without a tree.
 use Rattle.std.proofs.Common.{◌≡◌, ℕ, ◌∷◌, ◌++◌, List, map, ap, sym, subst, ◌∙◌, Option, Some, None}
-use Rattle.std.specs.Prelude.{All}
-use Rattle.std.proofs.lemmas.List.Elements.{All-map, All-same, All-weaker}
+use Rattle.std.specs.Prelude.{All, Contains}
+use Rattle.std.proofs.lemmas.List.Elements.{All-contains, All-map, All-weaker, Contains-append_right}
 use Rattle.jam_base.specs.Files.{Files}
-use Rattle.jam_app.specs.declared.loaded.Loaded.{Loaded}
+use Rattle.jam_app.specs.declared.module.Parsed.{Parsed}
 use Rattle.jam_app.specs.declared.refusal.Refusal.{Refusal}
 use Rattle.jam_app.specs.declared.refusal.Refusal.TheVariants as refusal
 use Rattle.jam_app.specs.declared.source.Source.{Source}
 use Rattle.jam_app.specs.declared.stop.Stop.{Stop}
+use Rattle.jam_app.specs.declared.stop.Stop.TheVariants as stops
 use Rattle.jam_app.specs.declared.text.Bad.{Bad}
 use Rattle.jam_app.specs.declared.text.Bad.TheVariants as bad
-use Rattle.jam_app.specs.Progress.{HasBad, IsRead, IsRefusedFor, not_in_profile, source_of, too_large}
+use Rattle.jam_app.specs.Progress.{HasBad, IsParsed, IsRefusedFor, not_in_profile, too_large}
 use Rattle.jam_app.specs.Texts.{IsBad}
+use Rattle.composer.proofs.Members.{here}
+use Rattle.jam_app.proofs.Causes.{told}
 use Rattle.jam_app.specs.Work.{HasBadCause, HasStopCause, stop_of}
 
 -- a module that has no tree
@@ -26,14 +29,23 @@ bad_stop path bytes b files before now stop cause is = subst (HasStopCause (λ m
     by (bad.At place) cause None = tt
     by (bad.At place) cause (Some m) = not_in_profile place.offset cause.0 cause.1 cause.2
 
--- modules that have a tree aren't bad
-pub none_bad : (m : Files) (modules : List Loaded) (sources : List Source) → map source_of modules ≡ sources → All (IsRead m) modules → All (λ s. IsBad s.bytes.items → ⊥) sources
-none_bad m modules sources are read =
+-- files that have a tree aren't bad
+none_bad : (parsed : List Parsed) (sources : List Source) → map (λ (p : Parsed). p.source) parsed ≡ sources → All IsParsed parsed → All (λ s. IsBad s.bytes.items → ⊥) sources
+none_bad parsed sources are read =
     subst (All (λ (s : Source). IsBad s.bytes.items → ⊥)) are
-    (All-map (λ (s : Source). IsBad s.bytes.items → ⊥) source_of modules (All-weaker (IsRead m) (λ l. IsBad l.bytes.items → ⊥) (λ l r. λ bad. bad l.tree r.kept.spelled) modules read))
+    (All-map (λ (s : Source). IsBad s.bytes.items → ⊥) (λ (p : Parsed). p.source) parsed (All-weaker IsParsed (λ p. IsBad p.source.bytes.items → ⊥) (λ p r. λ bad. bad p.tree r.spelled) parsed read))
 
--- the refusal for the first module of a round that is bad
-pub bad_in : (m : Files) (modules : List Loaded) (sources done : List Source) (source : Source) (behind : List Source) (owed : Refusal) → map source_of modules ≡ done → All (IsRead m) modules
-    → sources ≡ done ++ source ∷ behind → IsRefusedFor source.path source.bytes.items owed → HasBad sources owed
-bad_in m modules sources done source behind owed are read parts refused =
-    record { front = done; source = source; behind = behind; parts = parts; none_bad = none_bad m modules done are read; refused = refused }
+-- a stop for one file of a round, behind those that have a tree, is one for the round
+pub bad_in : (parsed : List Parsed) (sources done : List Source) (source : Source) (behind : List Source) → map (λ (p : Parsed). p.source) parsed ≡ done → All IsParsed parsed
+    → sources ≡ done ++ source ∷ behind → (stop : Stop) → ((files : Option Files) (before now : ℕ) → HasStopCause (λ m owed. IsRefusedFor source.path source.bytes.items owed) files before now stop)
+    → (files : Option Files) (before now : ℕ) → HasStopCause (λ m owed. HasBad sources owed) files before now stop
+bad_in parsed sources done source behind are read parts stop cause files before now = by stop (cause files before now)
+  where
+    by : (s : Stop) → HasStopCause (λ m owed. IsRefusedFor source.path source.bytes.items owed) files before now s → HasStopCause (λ m owed. HasBad sources owed) files before now s
+    by stops.ReadFault c = c
+    by stops.OutOfMemory c = tt
+    by (stops.Refused owed place) c = told files c (λ m refused. record { front = done; source = source; behind = behind; parts = parts; none_bad = none_bad parsed done are read; refused = refused })
+
+-- an item of a list of which all are so
+pub all_at : {X : Type 0} (P : X → Type 0) (all done : List X) (x : X) (behind : List X) → all ≡ done ++ x ∷ behind → All P all → P x
+all_at P all done x behind parts h = All-contains P all x h (subst (λ xs. Contains xs x) (sym parts) (Contains-append_right done (x ∷ behind) x (here x behind)))

@@ -1,6 +1,6 @@
 -- Stops and their causes, over a folder that may tell its files.
 use Rattle.std.proofs.Common.{◌≡◌, ℕ, ◌+◌, ◌≤◌, List, ap, sym, subst, ◌∙◌, arith, Option, Some, None, Result, Ok, Err}
-use Rattle.std.specs.Result.{IsErrAnd}
+use Rattle.std.specs.Result.{IfErr, IsErrAnd}
 use Rattle.std.specs.Option.{IfSome}
 use Rattle.jam_base.specs.Causes.{Rose}
 use Rattle.jam_base.specs.Files.{Files}
@@ -59,3 +59,8 @@ handed_on owed P Q first files before mid now stop (Ok x) is same later means ca
 -- where a text is owed, no refusal is, so any status will do
 pub refuses_none : (status : Status) (operand text : List ℕ) (files : Option Files) → IfSome files (λ m. IsOwed operand m text) → IfSome files (λ m. RefusesAlways status operand m)
 refuses_none status operand text files is = told files is (λ m owed refusal refused. absurd (owed.unrefused refusal refused))
+
+-- what holds of a stop that is handed on
+pub stop_handed : {X : Type 0} (P : Stop → Type 0) (stop : Stop) (result : Result X Stop) → IsErrAnd result (λ e. e ≡ stop) → P stop → IfErr result P
+stop_handed P stop (Err e) is p = subst P (sym is) p
+stop_handed P stop (Ok x) is p = absurd is

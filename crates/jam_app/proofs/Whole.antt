@@ -21,7 +21,8 @@ use Rattle.jam_app.specs.declared.rounds.Progress.{Progress}
 use Rattle.jam_app.specs.declared.size.Size.{Size}
 use Rattle.jam_app.specs.Entries.{entry_path}
 use Rattle.jam_app.specs.Loading.{IsKept, IsWhole, module_of}
-use Rattle.jam_app.specs.Progress.{IsHeld, Stands, found_at, size_of}
+use Rattle.jam_app.specs.Parts.{IsAnalysed}
+use Rattle.jam_app.specs.Progress.{HoldsAnalysed, IsHeld, Stands, found_at, size_of}
 use Rattle.jam_app.specs.Refusals.{IsFirstBad, IsOneTooMany, IsReached, IsRefusal, no_entry, not_in_profile, too_large, too_many}
 use Rattle.jam_app.specs.Rounds.{Ascend, Fits, IsApplication, IsLoaded, IsModuleOf, IsRound, IsTreeOf, LoadedModule, NoneBad, bytes_at, spelled, total_bytes}
 use Rattle.jam_app.specs.Texts.{IsBad, IsSpelled}
@@ -56,6 +57,31 @@ prefix_fits m all xs rest parts fits =
     let long : length all ≡ length xs + length rest = ap length parts ∙ length-append xs rest in
     let total : total_bytes m all ≡ total_bytes m xs + total_bytes m rest = ap (total_bytes m) parts ∙ total_append m xs rest in
     record { modules = omega (arith, fits.modules); bytes = omega (arith, fits.bytes) }
+
+analysed_all : (modules : BTreeMap (List ℕ) Loaded) → HoldsAnalysed modules → (es : List (List ℕ × Loaded)) → All (λ e. found_at modules e.0 ≡ Some e.1) es
+    → (map path_of (values_of es) ≡ keys_of es) × All IsAnalysed (values_of es)
+analysed_all modules held [] found = (refl, All-nil IsAnalysed)
+analysed_all modules held (e ∷ es) found =
+    let P : List ℕ × Loaded → Type 0 = λ e. found_at modules e.0 ≡ Some e.1 in
+    let here = held e.0 e.1 (All-head P e es found) in
+    let more = analysed_all modules held es (All-tail P e es found) in
+    ((λ i. here.0 i ∷ more.0 i), All-cons IsAnalysed e.1 (values_of es) here.1 more.1)
+
+module _ (modules : BTreeMap (List ℕ) Loaded) (listed : List Loaded) (held : HoldsAnalysed modules) (ordered : IsOrdered (slice_cmp nat_cmp) modules) (is : listed ≡ tree.values modules) where
+  all : (map path_of (tree.values modules) ≡ tree.keys modules) × All IsAnalysed (tree.values modules)
+  all = analysed_all modules held modules.entries (All-found nat_list_cmp_total modules ordered)
+
+  -- loaded modules in the order of a map ascend
+  pub listed_ascend : Ascend (map path_of listed)
+  listed_ascend = subst (λ ls. Ascend (map path_of ls)) (sym is) (subst Ascend (sym all.0) ordered)
+
+  -- and each has its tree and its constraints
+  pub listed_analysed : All IsAnalysed listed
+  listed_analysed = subst (All IsAnalysed) (sym is) all.1
+
+-- nothing is held at first
+pub nothing_held : (modules : BTreeMap (List ℕ) Loaded) → modules.entries ≡ [] → HoldsAnalysed modules
+nothing_held modules empty path l is = absurd (none-some l (sym (ap (λ (es : List (List ℕ × Loaded)). lookup (tree.is_at (slice_cmp nat_cmp path)) es) empty) ∙ is))
 
 module _ (m : Files) (operand : List ℕ) (progress : Progress) (stands : Stands operand m progress []) where
   -- a round that is reached stands among all modules

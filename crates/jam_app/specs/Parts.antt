@@ -16,7 +16,7 @@ use Rattle.jam_app.specs.Rounds.{LoadedModule}
 use Rattle.jam_app.specs.Texts.{IsSpelled}
 
 -- the text of the module has its tree, whose constraints these are
-pub record IsRead (l : Loaded) : Type 0 where
+pub record IsAnalysed (l : Loaded) : Type 0 where
   pub spelled : IsSpelled l.bytes.items l.tree
   pub constraints : l.constraints ≡ constraints_of l.tree
 

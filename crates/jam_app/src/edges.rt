@@ -5,7 +5,7 @@ ghost use Rattle.jam_base.specs.Files.{Files};
 ghost use Rattle.flow_rules.specs.Flows.{constraints_of};
 ghost use Rattle.jam_app.specs.Graphs as graphs;
 ghost use Rattle.jam_app.specs.Loading.{IsWhole, module_of};
-ghost use Rattle.jam_app.specs.Parts.{AreOfModule, IsRead, call_in, edge_among, function_among, printed_of, spot_at, spot_of};
+ghost use Rattle.jam_app.specs.Parts.{AreOfModule, IsAnalysed, call_in, edge_among, function_among, printed_of, spot_at, spot_of};
 ghost use Rattle.jam_app.specs.Rounds.{Ascend};
 
 use crate::links::links_of;
@@ -20,7 +20,7 @@ use std::alloc::Global;
 /// The call graph of the loaded modules, which go by their paths.
 pub(crate) fn printed_edges(alloc: Global, loaded: Vec<Loaded>) -> Result<Text, OutOfMemory>
     requires sorted { Ascend (map (λ l. l.path) loaded.items) }
-    requires read { All IsRead loaded.items }
+    requires read { All IsAnalysed loaded.items }
     ensures { IfOk result (λ text. (operand : List ℕ) (files : Files) → IsWhole operand files loaded.items → graphs.IsGraphText operand files text) }
 {
     let links = links_of(alloc, loaded.as_slice())?;
@@ -33,7 +33,7 @@ pub(crate) fn printed_edges(alloc: Global, loaded: Vec<Loaded>) -> Result<Text, 
 
 // What is printed of the modules.
 fn printed_modules(alloc: Global, loaded: &[Loaded]) -> Result<Vec<Printed>, OutOfMemory>
-    requires { All IsRead loaded.now }
+    requires { All IsAnalysed loaded.now }
     ensures { IfOk result (λ printed. printed.items ≡ map printed_of (map module_of loaded.now)) }
 {
     let mut printed = Vec::new(alloc);
@@ -45,7 +45,7 @@ fn printed_modules(alloc: Global, loaded: &[Loaded]) -> Result<Vec<Printed>, Out
 
 // What is printed of a module.
 fn printed_module(alloc: Global, one: &Loaded) -> Result<Printed, OutOfMemory>
-    requires { IsRead one.now }
+    requires { IsAnalysed one.now }
     ensures { IfOk result (λ printed. printed ≡ printed_of (module_of one.now)) }
 {
     let text = ascii(one.bytes.as_slice());

@@ -1,9 +1,10 @@
 //! The modules of a round.
-ghost use Rattle.std.specs.Prelude.{◌≡◌, ◌≤◌, ◌++◌, map, All, IfOk, OnOk};
+ghost use Rattle.std.specs.Prelude.{◌≡◌, ◌≤◌, ◌++◌, ℕ, Option, map, All, IfErr, IfOk, OnOk};
 ghost use Rattle.std.specs.List.{filter_map};
 ghost use Rattle.std.specs.Option.{option_to_list};
 ghost use Rattle.jam_base.specs.Files.{Files};
 ghost use Rattle.flow_rules.specs.Flows.{constraints_of};
+ghost use Rattle.jam_app.specs.Parts.{IsAnalysed};
 ghost use Rattle.jam_app.specs.Progress as progress;
 ghost use Rattle.jam_app.specs.Progress.{HasBad, IsParsed, IsRead, IsRefusedFor, source_of};
 ghost use Rattle.jam_app.specs.Work.{Gives, HasStopCause, stop_of};
@@ -137,6 +138,7 @@ fn module_with<F: Folder>(alloc: Global, folder: &mut F, parsed: Parsed) -> Resu
     requires { IsParsed parsed }
     ensures gives { Gives (λ m l. (source_of l ≡ parsed.source) × IsRead m l)
         (λ m owed. ⊥) (F.files folder.old) (F.faults folder.old) (F.faults folder.new) result }
+    ensures analysed { IfOk result IsAnalysed }
     ensures same { F.files folder.new ≡ F.files folder.old }
     ensures later { F.faults folder.old ≤ F.faults folder.new }
 {
@@ -164,6 +166,7 @@ pub(crate) fn modules_of<F: Folder, L: Ledger>(
 ) -> Result<Vec<Loaded>, Stop>
     ensures gives { Gives (λ m modules. (map source_of modules.items ≡ sources.items) × All (IsRead m) modules.items)
         (λ m owed. HasBad sources.items owed) (F.files folder.old) (F.faults folder.old) (F.faults folder.new) result }
+    ensures analysed { IfOk result (λ modules. All IsAnalysed modules.items) }
     ensures same { F.files folder.new ≡ F.files folder.old }
     ensures later { F.faults folder.old ≤ F.faults folder.new }
 {
@@ -180,6 +183,7 @@ fn resolved_round<F: Folder>(
     requires { All IsParsed round.items }
     ensures gives { Gives (λ m modules. (map source_of modules.items ≡ map (λ p. p.source) round.items) × All (IsRead m) modules.items)
         (λ m owed. ⊥) (F.files folder.old) (F.faults folder.old) (F.faults folder.new) result }
+    ensures analysed { IfOk result (λ modules. All IsAnalysed modules.items) }
     ensures same { F.files folder.new ≡ F.files folder.old }
     ensures later { F.faults folder.old ≤ F.faults folder.new }
 {

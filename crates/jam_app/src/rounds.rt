@@ -6,7 +6,8 @@ ghost use Rattle.std.specs.Cmp.Lexicographic.{slice_cmp};
 ghost use Rattle.std.specs.Ordering.{nat_cmp};
 ghost use Rattle.jam_app.specs.declared.loaded.Loaded.{Loaded as AnyLoaded};
 ghost use Rattle.jam_app.specs.Loading.{IsWhole};
-ghost use Rattle.jam_app.specs.Progress.{Stands, found_at, led_from};
+ghost use Rattle.jam_app.specs.Parts.{IsAnalysed};
+ghost use Rattle.jam_app.specs.Progress.{HoldsAnalysed, Stands, found_at, led_from};
 ghost use Rattle.jam_app.specs.Refusals.{IsRefusal};
 ghost use Rattle.jam_app.specs.Rounds.{Ascend};
 ghost use Rattle.jam_app.specs.Work.{Gives};
@@ -111,6 +112,8 @@ fn load_round<F: Folder, L: Ledger>(
 ) -> Result<Vec<ModulePath>, Stop>
     requires modules { progress.old.size.modules ≤ 16384 }
     requires bytes { progress.old.size.bytes ≤ 67108864 }
+    requires held { HoldsAnalysed progress.old.modules }
+    ensures held { OnOk result (HoldsAnalysed progress.new.modules) }
     ensures gives { Gives
         (λ m next. (operand : List ℕ) → Stands operand m progress.old round.items → Stands operand m progress.new next.items)
         (λ m owed. (operand : List ℕ) → Stands operand m progress.old round.items → IsRefusal operand m owed)
@@ -155,6 +158,8 @@ pub(crate) fn load<F: Folder, L: Ledger>(
 ) -> Result<Vec<Loaded>, Stop>
     ensures gives { Gives (λ m loaded. IsWhole operand.now m loaded.items) (IsRefusal operand.now)
         (F.files folder.old) (F.faults folder.old) (F.faults folder.new) result }
+    ensures sorted { IfOk result (λ loaded. Ascend (map (λ l. l.path) loaded.items)) }
+    ensures analysed { IfOk result (λ loaded. All IsAnalysed loaded.items) }
     ensures same { F.files folder.new ≡ F.files folder.old }
     ensures later { F.faults folder.old ≤ F.faults folder.new }
 {
