@@ -23,4 +23,6 @@ pub(crate) use stop::Stop;
 pub use top::run;
 
 #[cfg(test)]
+mod loading_tests;
+#[cfg(test)]
 mod tests;
