@@ -1,10 +1,10 @@
 -- What stands somewhere from the start comes to its vertices, and ways to their targets.
-use Rattle.std.proofs.Common.{◌≡◌, ℕ, zero, suc, ◌+◌, ◌<◌, ◌≤◌, inl, inr, List, [], ◌∷◌, ◌++◌, length, replicate, get_or, take, refl, ap, sym, ◌∙◌, subst, arith}
+use Rattle.std.proofs.Common.{◌≡◌, ℕ, ◌+◌, ◌<◌, inl, inr, List, [], ◌∷◌, ◌++◌, length, replicate, get_or, take, ap, sym, ◌∙◌, subst}
 use Rattle.std.specs.Prelude.{Contains, slice_set}
 use Rattle.std.proofs.lemmas.Bool.{cases_eq}
-use Rattle.std.proofs.lemmas.List.{get_or_default, length-replicate, take_more, length-set}
+use Rattle.std.proofs.lemmas.List.{length-replicate, take_more}
 use Rattle.std.proofs.lemmas.List.Elements.{Contains-push, Contains-push_cases, Contains-append_left}
-use Rattle.js_scopes.proofs.Members.{none}
+use Rattle.composer.proofs.Members.{none}
 use Rattle.composer.specs.declared.system.Arrow.{Arrow}
 use Rattle.composer.specs.declared.system.Callable.{Callable}
 use Rattle.composer.specs.declared.system.System.{System}
@@ -12,7 +12,7 @@ use Rattle.composer.specs.Rows.{row, Holds, Adds, AreTargets, IsBegun}
 use Rattle.composer.specs.Solution.{IsBase}
 use Rattle.composer.specs.Solution.IsBase.{literal, native}
 use Rattle.composer.specs.Solution.OneStepOn.{base}
-use Rattle.composer.proofs.RowLemmas.{apart, row_replicate, row-set_same, row-set_other, adds_kept, adds_here, adds_cases}
+use Rattle.composer.proofs.RowLemmas.{row_replicate, row-set_same, row-set_other, adds_kept, adds_here, adds_cases}
 
 -- the first i functions and the first j places of the native are there
 pub record Begun (a : System ℕ ℕ) (n i j : ℕ) (rows : List (List ℕ)) : Type 0 where

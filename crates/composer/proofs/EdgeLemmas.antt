@@ -1,34 +1,31 @@
 -- The edges that were found are the call edges.
-use Rattle.std.proofs.Common.{◌≡◌, ℕ, ◌<◌, ◌⊎◌, inl, inr, Bool, true, false, cond, List, [], ◌∷◌, ◌++◌, length, refl, ap, sym, ◌∙◌, subst, arith, rules, Option, Some, None}
+use Rattle.std.proofs.Common.{◌≡◌, ℕ, inl, inr, Bool, true, false, cond, List, [], ◌∷◌, ◌++◌, length, refl, ap, sym, ◌∙◌, subst, Option, Some, None}
 use Rattle.std.specs.Prelude.{Contains, flat_map, slice_get, nat_eq}
 use Rattle.std.proofs.lemmas.Bool.{eqb-true, eq-eqb}
 use Rattle.std.proofs.lemmas.Option.{slice_get_within}
 use Rattle.std.proofs.lemmas.List.Elements.{Contains-append_cases, Contains-append_left, Contains-append_right}
 use Rattle.jam_base.specs.declared.edge.Edge.{Edge}
 use Rattle.js_scopes.specs.declared.site.SiteInfo.{SiteInfo}
-use Rattle.js_scopes.proofs.Members.{none, only, here, from_flat_map, into_flat_map}
+use Rattle.composer.proofs.OneList.{edge_total}
+use Rattle.composer.proofs.OrderLemmas.{both_equal, ranked_equal, tests_equal}
+use Rattle.composer.proofs.Members.{none, only, here, from_flat_map, into_flat_map}
 use Rattle.flow_rules.specs.declared.module.Require.{Require}
 use Rattle.flow_rules.specs.Constraints.{ModuleConstraints}
 use Rattle.composer.specs.declared.application.Link.{Link}
-use Rattle.composer.specs.declared.application.ModuleVertex.{ModuleVertex}
 use Rattle.composer.specs.declared.application.Value.TheVariants.{Fun, Native}
 use Rattle.composer.specs.Application.{site_of, system_of}
 use Rattle.composer.specs.CallEdges.{link_edges, require_edges, requires_at}
-use Rattle.std.specs.declared.cmp.Ordering.{Ordering}
-use Rattle.std.specs.declared.cmp.Ordering.TheVariants.{Less, Equal, Greater}
-use Rattle.std.specs.Cmp.{IsTotalOrder}
-use Rattle.std.specs.Cmp.Rules.{comparing}
 use Rattle.std.specs.List.{dedup}
 use Rattle.std.specs.List.Sorted.{IsPermutation, IsSorted}
-use Rattle.std.specs.Ordering.{MatchOrdering, eq_by_cmp, is_eq, nat_cmp, ordering_then}
-use Rattle.std.proofs.lemmas.Cmp.{ranked, eq_by_cmp_equiv}
+use Rattle.std.specs.Ordering.{eq_by_cmp, nat_cmp}
+use Rattle.std.proofs.lemmas.Cmp.{eq_by_cmp_equiv}
 use Rattle.std.proofs.lemmas.List.Kept.{Contains-dedup, Contains-from_dedup, IsStrictlySortedBy-dedup}
 use Rattle.std.proofs.lemmas.List.Sorted.{Contains-permutation, IsPermutation-sym}
 use Rattle.jam_base.specs.Edges.{edge_order}
 use Rattle.composer.specs.Edges.{IsEdgeList, IsEdge, IsSiteOf, IsRequireOf}
 use Rattle.composer.specs.Edges.IsEdge.{call, callback, require}
 use Rattle.composer.specs.Solution.{InSolution}
-use Rattle.composer.specs.Solved.{AddsEdges, IsEdgeAt, IsEdgeBelow, LeavesSite}
+use Rattle.composer.specs.Solved.{AddsEdges, IsEdgeBelow, LeavesSite}
 use Rattle.composer.specs.Solved.IsEdgeAt.{called, handed}
 use Rattle.composer.specs.Steps.{inputs}
 
@@ -90,22 +87,6 @@ module _ (modules : List ModuleConstraints) (links : List Link) where
     edges_all edge (call s is x) = Contains-append_left found _ edge (sites.all edge (edge.caller.module, is.constraints, slice_get_within modules edge.caller.module is.constraints is.here, is.here, (s, is.site, called (leaves s edge is) x)))
     edges_all edge (callback s w is x i y) = Contains-append_left found _ edge (sites.all edge (edge.caller.module, is.constraints, slice_get_within modules edge.caller.module is.constraints is.here, is.here, (s, is.site, handed w (leaves s edge is) x i y)))
     edges_all edge (require r is cl z) = Contains-append_right found _ edge (into_link edge r is cl z)
-
-edge_total : IsTotalOrder edge_order
-edge_total = search (comparing, rules) depth 12
-
-both_equal : (a b : Ordering) → ordering_then a b ≡ Equal → (a ≡ Equal) × (b ≡ Equal)
-both_equal Equal b e = (refl, e)
-both_equal Less b e = absurd (cc)
-both_equal Greater b e = absurd (cc)
-
-ranked_equal : (x y : ℕ) → nat_cmp x y ≡ Equal → x ≡ y
-ranked_equal x y e = subst (λ o. MatchOrdering o (x < y) (x ≡ y) (y < x)) e (ranked x y (nat_cmp x y) refl)
-
-tests_equal : (o : Ordering) → is_eq o ≡ true → o ≡ Equal
-tests_equal Less e = absurd (let k : false ≡ true = e in cc)
-tests_equal Equal e = refl
-tests_equal Greater e = absurd (let k : false ≡ true = e in cc)
 
 -- the order tells edges apart
 one_edge : (x y : Edge) → eq_by_cmp edge_order x y ≡ true → x ≡ y

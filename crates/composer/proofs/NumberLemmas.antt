@@ -1,20 +1,20 @@
 -- Numbers for vertices: places in an ascending list.
-use Rattle.std.proofs.Common.{◌≡◌, ℕ, zero, suc, ◌+◌, ◌<◌, ◌≤◌, ◌⊎◌, inl, inr, Bool, true, false, List, [], ◌∷◌, ◌++◌, length, map, get_or, take, refl, ap, sym, ◌∙◌, subst, arith}
+use Rattle.std.proofs.Common.{◌≡◌, ℕ, zero, suc, ◌+◌, ◌<◌, ◌≤◌, ◌⊎◌, inl, inr, true, false, List, [], ◌∷◌, ◌++◌, length, map, get_or, take, refl, ap, sym, ◌∙◌, subst, arith}
 use Rattle.std.specs.Prelude.{Contains, All, flat_map}
 use Rattle.std.specs.declared.cmp.Ordering.{Ordering}
 use Rattle.std.specs.declared.cmp.Ordering.TheVariants.{Less, Equal, Greater}
 use Rattle.std.specs.Cmp.{IsTotalOrder, on_total, then_total, nat_cmp_total}
 use Rattle.std.specs.Cmp.Lexicographic.{nat_list_cmp_total}
 use Rattle.std.specs.List.Sorted.{IsStrictlySortedBy, IsSorted, IsNonDecreasingBy, IsPartitionPoint}
-use Rattle.std.specs.Ordering.{ordering_then, ordering_index, ordering_reverse, is_eq, is_lt, nat_cmp, MatchOrdering, eq_by_cmp}
-use Rattle.std.proofs.lemmas.Cmp.{ranked, tied_itself, eq_by_cmp_equiv}
+use Rattle.std.specs.Ordering.{ordering_index, ordering_reverse, is_lt, nat_cmp, eq_by_cmp}
+use Rattle.std.proofs.lemmas.Cmp.{tied_itself}
 use Rattle.std.proofs.lemmas.List.{map-append, take_more, take_all, length_push, get_or_push, get_or_append_left}
 use Rattle.std.proofs.lemmas.List.Elements.{All-push, All-nil, Contains-get_or, Contains-append_left, Contains-append_right}
-use Rattle.std.proofs.lemmas.List.Sorted.{searchable_from_sorted, Contains-permutation}
-use Rattle.std.proofs.lemmas.List.Kept.{Contains-dedup, IsStrictlySortedBy-dedup}
+use Rattle.std.proofs.lemmas.List.Sorted.{searchable_from_sorted}
 use Rattle.std.proofs.lemmas.Map.Keys.{Less-from_sorted}
 use Rattle.std.proofs.lemmas.Map.Lookups.{exact_bytes}
-use Rattle.js_scopes.proofs.Members.{here, there, into_flat_map}
+use Rattle.composer.proofs.OrderLemmas.{both_equal, ranked_equal, tests_equal}
+use Rattle.composer.proofs.Members.{here, there, into_flat_map}
 use Rattle.flow_rules.specs.Vertices.{vertex_key, vertex_order}
 use Rattle.flow_rules.proofs.Order.{one_vertex}
 use Rattle.composer.specs.declared.application.ModuleVertex.{ModuleVertex}
@@ -25,7 +25,7 @@ use Rattle.composer.specs.declared.system.System.{System}
 use Rattle.composer.specs.Numbered.{IsCallableIn, IsSiteIn, IsSystemIn, all_vertices, arrow_vertices, callable_vertices, site_vertices}
 use Rattle.composer.specs.declared.application.Value.{Value}
 use Rattle.composer.specs.declared.application.Value.TheVariants.{Native}
-use Rattle.composer.specs.Numbers.{module_vertex_order, value_at, vertex_at}
+use Rattle.composer.specs.Numbers.{module_vertex_order, value_at}
 
 -- the first i of the items are what the function gives of the numbers, which have the property
 pub record Numbers {X Y : Type 0} (f : X → Y) (P : X → Type 0) (xs : List X) (ys : List Y) (i : ℕ) : Type 0 where
@@ -68,25 +68,12 @@ HasPlaces-more xs x n p e = record {
 pub order_total : IsTotalOrder module_vertex_order
 order_total = then_total (on_total (λ v. v.module) nat_cmp_total) (on_total (λ v. vertex_key v.vertex) nat_list_cmp_total)
 
-both_equal : (a b : Ordering) → ordering_then a b ≡ Equal → (a ≡ Equal) × (b ≡ Equal)
-both_equal Equal b e = (refl, e)
-both_equal Less b e = absurd (cc)
-both_equal Greater b e = absurd (cc)
-
-ranked_equal : (x y : ℕ) → nat_cmp x y ≡ Equal → x ≡ y
-ranked_equal x y e = subst (λ o. MatchOrdering o (x < y) (x ≡ y) (y < x)) e (ranked x y (nat_cmp x y) refl)
-
 pub one_module_vertex : (u v : ModuleVertex) → module_vertex_order u v ≡ Equal → u ≡ v
 one_module_vertex u v e =
     let b = both_equal (nat_cmp u.module v.module) (vertex_order u.vertex v.vertex) e in
     let m = ranked_equal u.module v.module b.0 in
     let w = one_vertex u.vertex v.vertex (exact_bytes (vertex_key u.vertex) (vertex_key v.vertex) b.1) in
     λ i. record { «module» = m i; vertex = w i }
-
-tests_equal : (o : Ordering) → is_eq o ≡ true → o ≡ Equal
-tests_equal Less e = absurd (let k : false ≡ true = e in cc)
-tests_equal Equal e = refl
-tests_equal Greater e = absurd (let k : false ≡ true = e in cc)
 
 pub same_vertex : (u v : ModuleVertex) → eq_by_cmp module_vertex_order u v ≡ true → u ≡ v
 same_vertex u v e = one_module_vertex u v (tests_equal (module_vertex_order u v) e)

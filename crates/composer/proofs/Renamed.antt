@@ -1,15 +1,15 @@
 -- A system with other vertices and values has the same solution, where different numbers stand for different ones.
-use Rattle.std.proofs.Common.{◌≡◌, ℕ, ◌<◌, ◌≤◌, List, [], ◌∷◌, ◌++◌, map, length, refl, ap, sym, ◌∙◌, subst, arith}
-use Rattle.std.specs.Prelude.{Contains, All}
+use Rattle.std.proofs.Common.{◌≡◌, ℕ, ◌<◌, ◌≤◌, List, [], ◌∷◌, ◌++◌, map, refl, ap, sym, ◌∙◌, subst, arith}
+use Rattle.std.specs.Prelude.{Contains}
 use Rattle.std.proofs.lemmas.List.{map-append}
 use Rattle.std.proofs.lemmas.List.Elements.{All-contains}
-use Rattle.js_scopes.proofs.Members.{from_map, into_map}
+use Rattle.composer.proofs.Members.{from_map, into_map}
 use Rattle.composer.specs.declared.system.Arrow.{Arrow}
 use Rattle.composer.specs.declared.system.Callable.{Callable}
 use Rattle.composer.specs.declared.system.CallSite.{CallSite}
 use Rattle.composer.specs.declared.system.System.{System}
-use Rattle.composer.specs.Numbered.{IsCallableIn, IsSiteIn, IsSystemIn, HasValues, Below, map_arrow, map_callable, map_site, map_system}
-use Rattle.composer.specs.Solution.{IsBase, Reason, InSolution, IsClosed}
+use Rattle.composer.specs.Numbered.{IsSiteIn, IsSystemIn, HasValues, Below, map_arrow, map_callable, map_site, map_system}
+use Rattle.composer.specs.Solution.{IsBase, Reason, InSolution}
 use Rattle.composer.specs.Solution.IsBase.{literal, native as native_base}
 use Rattle.composer.specs.Solution.Reason.{flow, call, native, callback}
 use Rattle.composer.specs.Solution.OneStepOn.{base}

@@ -1,9 +1,9 @@
 -- How many pairs of a value and a vertex are not yet in the rows.
-use Rattle.std.proofs.Common.{◌≡◌, ℕ, zero, suc, ◌+◌, ◌<◌, ◌≤◌, inl, inr, Bool, true, false, cond, List, [], ◌∷◌, refl, sym, ◌∙◌, subst, arith}
-use Rattle.std.specs.Prelude.{IsTrue, nat_eq, sum_by}
-use Rattle.std.proofs.lemmas.Bool.{cases_eq, eqb-true}
-use Rattle.composer.specs.Rows.{gaps, room, row, is_in, Holds}
-use Rattle.composer.proofs.RowLemmas.{apart, or_cases}
+use Rattle.std.proofs.Common.{◌≡◌, ℕ, zero, suc, ◌+◌, ◌<◌, ◌≤◌, inl, inr, Bool, true, false, cond, List, [], ◌∷◌, refl, subst, arith}
+use Rattle.std.specs.Prelude.{IsTrue, nat_eq}
+use Rattle.std.proofs.lemmas.Bool.{cases_eq, eqb-true, or_cases}
+use Rattle.composer.specs.Rows.{gaps, room, is_in, Holds}
+use Rattle.composer.proofs.RowLemmas.{apart}
 
 cond_le : (a b : Bool) → (a ≡ true → b ≡ true) → cond b 0 1 ≤ cond a 0 1
 cond_le true b h = rw (h refl) (omega arith)

@@ -1,18 +1,16 @@
 -- From numbers to the vertices and values of an application, and to its edges.
-use Rattle.std.proofs.Common.{◌≡◌, ℕ, zero, suc, ◌+◌, ◌<◌, ◌≤◌, ◌⊎◌, inl, inr, List, [], ◌∷◌, ◌++◌, length, map, get_or, refl, ap, sym, ◌∙◌, subst, arith, Option, Some, None, take}
-use Rattle.std.proofs.lemmas.List.{length-map, take_more, get_or_past}
+use Rattle.std.proofs.Common.{◌≡◌, ℕ, zero, suc, ◌+◌, ◌<◌, ◌≤◌, ◌⊎◌, inl, inr, List, [], ◌∷◌, ◌++◌, length, map, get_or, refl, ap, sym, ◌∙◌, subst, arith, Some, None, take}
+use Rattle.std.proofs.lemmas.List.{length-map, take_more}
 use Rattle.std.specs.Prelude.{slice_get}
 use Rattle.std.specs.List.{enumerate_from}
-use Rattle.std.specs.Prelude.{Contains, All, flat_map}
-use Rattle.std.specs.declared.cmp.Ordering.{Ordering}
-use Rattle.std.specs.declared.cmp.Ordering.TheVariants.{Less, Equal, Greater}
+use Rattle.std.specs.Prelude.{Contains}
+use Rattle.std.specs.declared.cmp.Ordering.TheVariants.{Less}
 use Rattle.std.specs.List.Sorted.{IsStrictlySortedBy}
-use Rattle.std.proofs.lemmas.Cmp.{tied_itself}
 use Rattle.std.proofs.lemmas.List.Elements.{All-contains, Contains-append_cases, Contains-append_left, Contains-append_right, Contains-push, Contains-push_cases}
 use Rattle.std.proofs.lemmas.Map.Keys.{Less-from_sorted}
 use Rattle.jam_base.specs.declared.edge.Edge.{Edge}
 use Rattle.js_scopes.specs.declared.site.SiteInfo.{SiteInfo}
-use Rattle.js_scopes.proofs.Members.{none, only, here, there, from_flat_map, into_flat_map, from_map, into_map}
+use Rattle.composer.proofs.Members.{none, only, here, there, from_flat_map, into_flat_map, from_map, into_map}
 use Rattle.flow_rules.specs.Constraints.{ModuleConstraints}
 use Rattle.flow_rules.specs.declared.vertex.Vertex.TheVariants.{Elem}
 use Rattle.composer.specs.declared.application.ModuleVertex.{ModuleVertex}
@@ -30,18 +28,16 @@ use Rattle.composer.specs.Solved.{AddsEdges, AreSolved, HasOneNumber, IsEdgeAmon
 use Rattle.composer.specs.Solved.IsEdgeAt.{called, handed}
 use Rattle.composer.specs.Steps.{inputs}
 use Rattle.composer.proofs.NumberLemmas.{order_total}
+use Rattle.composer.proofs.OrderLemmas.{not_itself}
 use Rattle.composer.proofs.Renamed.{bounds, inputs-map, renamed_has, renamed_only}
 use Rattle.composer.proofs.RowLemmas.{in_from_member, member_from_in}
 use Rattle.composer.proofs.WayLemmas.{inputs_in}
 
 -- a vertex has one number
-not_itself : (v : ModuleVertex) → module_vertex_order v v ≡ Less → ⊥
-not_itself v e = let k : Less ≡ Equal = sym e ∙ tied_itself order_total v in cc
-
 one_number : (vs : List ModuleVertex) → IsStrictlySortedBy module_vertex_order vs → (i j : ℕ) → i < length vs → j < length vs → vertex_at vs i ≡ vertex_at vs j → i ≡ j
 one_number vs s i j li lj e = elim (three_ways i j) [
-  | inl h ↦ absurd (not_itself (vertex_at vs j) (subst (λ v. module_vertex_order v (vertex_at vs j) ≡ Less) e (Less-from_sorted module_vertex_order vs i j (at_module 0 Elem) s h lj)))
-  | inr (inl h) ↦ absurd (not_itself (vertex_at vs j) (subst (λ v. module_vertex_order (vertex_at vs j) v ≡ Less) e (Less-from_sorted module_vertex_order vs j i (at_module 0 Elem) s h li)))
+  | inl h ↦ absurd (not_itself order_total (vertex_at vs j) (subst (λ v. module_vertex_order v (vertex_at vs j) ≡ Less) e (Less-from_sorted module_vertex_order vs i j (at_module 0 Elem) s h lj)))
+  | inr (inl h) ↦ absurd (not_itself order_total (vertex_at vs j) (subst (λ v. module_vertex_order (vertex_at vs j) v ≡ Less) e (Less-from_sorted module_vertex_order vs j i (at_module 0 Elem) s h li)))
   | inr (inr h) ↦ h
 ]
   where

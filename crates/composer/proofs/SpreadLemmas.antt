@@ -1,17 +1,18 @@
 -- Bringing one value to several vertices, and all values along all ways.
-use Rattle.std.proofs.Common.{◌≡◌, ℕ, zero, suc, ◌+◌, ◌*◌, ◌<◌, ◌≤◌, ◌⊎◌, inl, inr, Bool, true, false, ◌||◌, List, [], ◌∷◌, ◌++◌, length, map, refl, ap, sym, ◌∙◌, subst, arith}
+use Rattle.std.proofs.Common.{◌≡◌, ℕ, zero, suc, ◌<◌, ◌⊎◌, inl, inr, Bool, true, false, ◌||◌, List, [], ◌∷◌, ◌++◌, length, refl, ap, sym, ◌∙◌, subst, arith}
 use Rattle.std.specs.Prelude.{Contains, IsTrue}
+use Rattle.std.proofs.lemmas.Bool.{cases_Bool, or_cases, or_parts}
 use Rattle.std.proofs.lemmas.List.{length_push}
 use Rattle.std.proofs.lemmas.List.Elements.{Contains-append_cases, Contains-append_left, Contains-append_right, Contains-push, Contains-push_cases}
-use Rattle.js_scopes.proofs.Members.{none, here, only, from_map, into_map}
+use Rattle.composer.proofs.Members.{none, here, only, from_map, into_map}
 use Rattle.composer.specs.declared.system.Arrow.{Arrow}
 use Rattle.composer.specs.declared.sweep.Placed.{Placed}
-use Rattle.composer.specs.Rows.{row, has, Holds, Adds, AreTargets, placed_at, placed_below, Grows, room, left, Spreads, Carried, IsSettled}
+use Rattle.composer.specs.Rows.{row, has, Holds, Adds, AreTargets, placed_at, placed_below, Grows, left, Spreads, Carried, IsSettled}
 use Rattle.composer.specs.Rows.Carried.{start, along}
-use Rattle.composer.proofs.RowLemmas.{bool_cases, apart, or_cases, or_none, member_from_in, in_from_member, in_range, adds_kept, adds_here, adds_cases}
+use Rattle.composer.proofs.RowLemmas.{apart, member_from_in, in_from_member, in_range, adds_kept, adds_here, adds_cases}
 use Rattle.composer.proofs.RoomLemmas.{room_lt, ceiling, below_ceiling}
 
--- a value to no vertex, or to one that has it
+-- a value to no vertex
 pub Spreads-none : (t : ℕ) (old : List (List ℕ)) (pending : List Placed) → Spreads t [] old pending old pending false
 Spreads-none t old pending = record {
   same_length = refl;
@@ -25,20 +26,6 @@ Spreads-none t old pending = record {
   still = λ _. refl;
   less_left = λ n m _ _. omega arith;
 }
-
-pub Spreads-there : (t v : ℕ) (old new : List (List ℕ)) (pending : List Placed) → has old t v ≡ true → Adds t v old new → Spreads t (v ∷ []) old pending new pending false
-Spreads-there t v old new pending h a = rw (a.still h) (record {
-  same_length = refl;
-  kept = λ x w g. g;
-  found = λ x w g. inl g;
-  all = λ w g. subst (λ y. Holds old t y) (only v w g) h;
-  still_pending = λ p g. g;
-  new_ones_pending = λ x w g. inl g;
-  pending_hold = λ p g. inl g;
-  grown = λ g. absurd (apart g refl);
-  still = λ _. refl;
-  less_left = λ n m _ _. omega arith;
-})
 
 -- to one that gets it
 pub Spreads-new : (t v : ℕ) (old new : List (List ℕ)) (pending : List Placed) → v < length old → has old t v ≡ false → Adds t v old new → Spreads t (v ∷ []) old pending new (pending ++ record { value = t; vertex = v } ∷ []) true
@@ -72,7 +59,7 @@ Grows-earlier old now new same kept g = record {
   vertex = g.vertex;
   in_range = omega (arith, g.in_range, same);
   is_new = g.is_new;
-  was_absent = elim (bool_cases (has old g.value g.vertex)) [ inl y ↦ absurd (apart (kept g.value g.vertex y) g.was_absent) | inr y ↦ y ];
+  was_absent = elim (cases_Bool (has old g.value g.vertex)) [ inl y ↦ absurd (apart (kept g.value g.vertex y) g.was_absent) | inr y ↦ y ];
 }
 
 -- to some vertices, and then to one more
@@ -98,7 +85,7 @@ Spreads-more t v vs old now new p q r grew more a b = record {
     | inl g ↦ Grows-later old now new b.kept (a.grown g)
     | inr g ↦ Grows-earlier old now new a.same_length a.kept (b.grown g)
   ];
-  still = λ h. let n = or_none grew more h in b.still n.1 ∙ a.still n.0;
+  still = λ h. let n = or_parts grew more h in b.still n.1 ∙ a.still n.0;
   less_left = λ n m small within.
       omega (arith, a.less_left n m small (λ w h. within w (Contains-append_left vs (v ∷ []) w h)), b.less_left n m small (λ w h. within w (Contains-append_right vs (v ∷ []) w h)));
 }
@@ -173,7 +160,7 @@ module _ (targets old now new : List (List ℕ)) (rest more : List Placed) (p : 
       | inl g ↦ Grows-later old now new a.kept (s.grown g)
       | inr g ↦ Grows-earlier old now new s.same_length s.kept (a.grown g)
     ];
-    still = λ h. let n = or_none grew again h in a.still n.1 ∙ s.still n.0;
+    still = λ h. let n = or_parts grew again h in a.still n.1 ∙ s.still n.0;
   }
 
   -- what is left falls at each step

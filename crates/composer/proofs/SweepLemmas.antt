@@ -1,11 +1,10 @@
 -- One sweep, and the last.
-use Rattle.std.proofs.Common.{◌≡◌, ℕ, ◌+◌, ◌<◌, ◌≤◌, Bool, true, false, List, length, refl, ap, sym, ◌∙◌, subst, arith}
-use Rattle.std.specs.Prelude.{Contains, All}
+use Rattle.std.proofs.Common.{◌≡◌, ℕ, ◌+◌, ◌<◌, ◌≤◌, Bool, true, false, List, sym, ◌∙◌, subst, arith}
+use Rattle.std.specs.Prelude.{All}
 use Rattle.std.proofs.lemmas.List.Elements.{Contains-get_or}
-use Rattle.composer.specs.declared.system.Arrow.{Arrow}
 use Rattle.composer.specs.declared.system.System.{System}
 use Rattle.composer.specs.Numbered.{IsArrowIn, IsSystemIn, HasValues, Below}
-use Rattle.composer.specs.Rows.{row, has, Holds, room, AreTargets, Carried, IsSettled, IsBegun, IsSolution}
+use Rattle.composer.specs.Rows.{has, Holds, room, Carried, IsSettled, IsBegun, IsSolution}
 use Rattle.composer.specs.Rows.Carried.{start, along}
 use Rattle.composer.specs.Solution.{InSolution, Has}
 use Rattle.composer.specs.Ways.{all_ways}

@@ -1,16 +1,16 @@
 -- The ways of a numbered system are what there is a reason for, and stay below the count of its vertices.
-use Rattle.std.proofs.Common.{◌≡◌, ℕ, zero, suc, ◌+◌, ◌<◌, ◌≤◌, ◌⊎◌, inl, inr, Bool, true, false, List, [], ◌∷◌, ◌++◌, length, get_or, refl, ap, sym, ◌∙◌, subst, arith, Option, Some, None}
-use Rattle.std.specs.Prelude.{Contains, All, IsTrue, flat_map, slice_get}
-use Rattle.std.proofs.lemmas.List.Elements.{All-contains, All-append, All-cons, All-nil, All-head, All-tail, Contains-append_cases, Contains-append_left, Contains-append_right, Contains-get_or}
+use Rattle.std.proofs.Common.{◌≡◌, ℕ, ◌<◌, ◌≤◌, inl, inr, List, [], ◌∷◌, ◌++◌, length, get_or, refl, ap, sym, ◌∙◌, subst, arith, Option, Some, None}
+use Rattle.std.specs.Prelude.{Contains, All, flat_map, slice_get}
+use Rattle.std.proofs.lemmas.List.Elements.{All-contains, All-append, All-cons, All-nil, All-head, All-tail, Contains-append_cases, Contains-append_left, Contains-append_right}
 use Rattle.std.proofs.lemmas.Option.{slice_get-get_or, slice_get_past, slice_get_cases}
-use Rattle.js_scopes.proofs.Members.{none, from_flat_map, into_flat_map}
+use Rattle.composer.proofs.Members.{none, from_flat_map, into_flat_map}
 use Rattle.composer.specs.declared.system.Arrow.{Arrow}
 use Rattle.composer.specs.declared.system.Callable.{Callable}
 use Rattle.composer.specs.declared.system.CallSite.{CallSite}
 use Rattle.composer.specs.declared.system.System.{System}
 use Rattle.composer.specs.Numbered.{IsSiteIn, IsCallableIn, IsArrowIn, IsSystemIn, HasValues}
 use Rattle.composer.specs.Rows.{row, has, Holds}
-use Rattle.composer.specs.Solution.{IsBase, Reason, InSolution, IsClosed, Has}
+use Rattle.composer.specs.Solution.{IsBase, Reason, InSolution, Has}
 use Rattle.composer.specs.Solution.IsBase.{literal, native as native_base}
 use Rattle.composer.specs.Solution.Reason.{flow, call, native, callback}
 use Rattle.composer.specs.Steps.{into_params, to_each, receivers, inputs, call_arrows, native_arrows, callback_arrows}

@@ -1,5 +1,5 @@
 -- The call edges of an application, by the values that stand in rows.
-use Rattle.std.specs.Prelude.{ℕ, ◌==◌, cond, List, [], ◌∷◌, ◌++◌, flat_map, Option, Some, None, slice_get}
+use Rattle.std.specs.Prelude.{ℕ, ◌==◌, cond, List, [], ◌∷◌, flat_map, Option, Some, None, slice_get}
 use Rattle.jam_base.specs.declared.edge.Edge.{Edge}
 use Rattle.js_scopes.specs.declared.site.SiteInfo.{SiteInfo}
 use Rattle.flow_rules.specs.declared.module.Require.{Require}
@@ -10,7 +10,6 @@ use Rattle.composer.specs.declared.application.Value.{Value}
 use Rattle.composer.specs.declared.application.Value.TheVariants.{Fun, Native}
 use Rattle.composer.specs.declared.system.CallSite.{CallSite}
 use Rattle.composer.specs.declared.system.System.{System}
-use Rattle.composer.specs.Application.{of_each}
 use Rattle.composer.specs.Numbers.{value_at}
 use Rattle.composer.specs.Rows.{row}
 use Rattle.composer.specs.Steps.{inputs}

@@ -3,7 +3,7 @@ use Rattle.std.specs.Prelude.{ℕ, List, map, slice_index_or}
 use Rattle.std.specs.declared.cmp.Ordering.{Ordering}
 use Rattle.std.specs.Ordering.{nat_cmp, on, then_cmp}
 use Rattle.flow_rules.specs.declared.vertex.Vertex.TheVariants.{Elem}
-use Rattle.flow_rules.specs.Vertices.{vertex_key, vertex_order}
+use Rattle.flow_rules.specs.Vertices.{vertex_order}
 use Rattle.composer.specs.declared.application.ModuleVertex.{ModuleVertex}
 use Rattle.composer.specs.declared.application.Value.{Value}
 use Rattle.composer.specs.declared.application.Value.TheVariants.{Native}

@@ -1,5 +1,5 @@
 -- Sets of values as rows, one for each vertex.
-use Rattle.std.specs.Prelude.{ℕ, zero, suc, ◌+◌, ◌*◌, ◌<◌, ◌≤◌, ◌≡◌, ◌↔◌, ◌⊎◌, Bool, true, false, ◌||◌, ◌&&◌, cond, IsTrue, List, [], ◌∷◌, ◌++◌, length, map, slice_index_or, nat_eq, Contains, sum_by}
+use Rattle.std.specs.Prelude.{ℕ, zero, suc, ◌+◌, ◌*◌, ◌<◌, ◌≤◌, ◌≡◌, ◌⊎◌, Bool, true, false, ◌||◌, ◌&&◌, cond, IsTrue, List, [], ◌++◌, length, map, slice_index_or, nat_eq, Contains}
 use Rattle.std.specs.List.{list_any}
 use Rattle.composer.specs.declared.system.Arrow.{Arrow}
 use Rattle.composer.specs.declared.sweep.Placed.{Placed}

@@ -1,5 +1,5 @@
 -- The ways of values that the sites of a numbered system make, by the values that stand in rows.
-use Rattle.std.specs.Prelude.{ℕ, List, [], ◌∷◌, ◌++◌, flat_map, slice_get, Option, Some, None}
+use Rattle.std.specs.Prelude.{ℕ, List, [], ◌++◌, flat_map, slice_get, Option, Some, None}
 use Rattle.composer.specs.declared.system.Arrow.{Arrow}
 use Rattle.composer.specs.declared.system.Callable.{Callable}
 use Rattle.composer.specs.declared.system.CallSite.{CallSite}

@@ -1,5 +1,5 @@
 //! The constraints of an application as one system.
-ghost use Rattle.std.specs.Prelude.{◌≡◌, ◌∷◌, [], ◌++◌, cond, length, map, IfOk, OnOk, flat_map};
+ghost use Rattle.std.specs.Prelude.{◌≡◌, ◌++◌, cond, map, IfOk, OnOk, flat_map};
 ghost use Rattle.std.specs.List.{enumerate_from, range_with_len};
 ghost use Rattle.flow_rules.specs.declared.vertex.Vertex.TheVariants.{Param, Arg};
 ghost use Rattle.flow_rules.specs.Vertices.{is_shared};

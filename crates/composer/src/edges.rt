@@ -1,10 +1,7 @@
 //! The call edges of an application whose system is solved.
-ghost use Rattle.std.specs.Prelude.{◌≡◌, ◌↔◌, ◌≤◌, ◌∷◌, ◌++◌, ◌⊎◌, ℕ, length, All, Contains, IfOk, OnOk, flat_map, slice_get, Some, None};
-ghost use Rattle.std.specs.List.Sorted.{IsStrictlySortedBy};
-ghost use Rattle.jam_base.specs.declared.edge.Edge.{Edge as AnyEdge};
-ghost use Rattle.flow_rules.specs.declared.module.Require.{Require as AnyRequire};
+ghost use Rattle.std.specs.Prelude.{◌≡◌, ◌++◌, OnOk, flat_map};
 ghost use Rattle.composer.specs.CallEdges as edges;
-ghost use Rattle.composer.specs.Numbers.{module_vertex_order, value_at, vertex_at};
+ghost use Rattle.composer.specs.Numbers.{value_at};
 ghost use Rattle.composer.specs.Steps.{inputs};
 
 use crate::application::{Link, ModuleVertex, Value};

@@ -1,5 +1,5 @@
 //! Numbers for the vertices and values of an application.
-ghost use Rattle.std.specs.Prelude.{◌≡◌, ◌<◌, ◌≤◌, ◌∷◌, [], ◌++◌, ℕ, length, map, slice_index_or, All, Contains, IfOk, OnOk, take};
+ghost use Rattle.std.specs.Prelude.{◌≡◌, ◌<◌, ◌≤◌, ◌∷◌, [], ◌++◌, ℕ, length, map, slice_index_or, All, Contains, IfOk, OnOk};
 ghost use Rattle.std.specs.List.Sorted.{IsStrictlySortedBy};
 ghost use Rattle.composer.specs.declared.application.ModuleVertex.{ModuleVertex as AnyVertex};
 ghost use Rattle.composer.specs.declared.application.Value.{Value as AnyValue};

@@ -6,12 +6,14 @@ use std::alloc::Global;
 
 fn functions(alloc: Global, params: &[u32]) -> Result<List<FunctionInfo>, OutOfMemory> {
     let mut out = Vec::new(alloc);
+    let mut start: u32 = 0;
     for count in params {
         out.push(FunctionInfo {
-            start: 0,
+            start,
             params: *count,
             name: Text::of(alloc, "f")?,
         })?;
+        start = start.saturating_add(1);
     }
     Ok(List::of(out))
 }
@@ -62,13 +64,17 @@ fn module(
     requires_: Vec<Require>,
     flows: Vec<Flow>,
 ) -> Result<Constraints, OutOfMemory> {
-    Ok(Constraints::of(
+    let made = Constraints::of(
         functions(alloc, params)?,
         List::of(sites),
         List::of(requires_),
         List::of(Vec::new(alloc)),
         List::of(flows),
-    ))
+    );
+    match made {
+        Some(made) => Ok(made),
+        None => Err(OutOfMemory),
+    }
 }
 
 #[test]
@@ -87,7 +93,6 @@ fn a_function_calls_itself(rt: HostRuntime) -> Result<(), OutOfMemory> {
     flows.push(flow(var(0), callee(9)))?;
     let mut sites = Vec::new(alloc);
     sites.push(site(5, 1, 0))?;
-    sites.push(site(9, 0, 0))?;
     sites.push(site(9, 0, 0))?;
     let one = module(alloc, &[0, 0], sites, Vec::new(alloc), flows)?;
     let graph = compose(alloc, &[one], &[])?;

@@ -1,6 +1,6 @@
 //! The ways of values that there are while some values stand at some vertices.
 ghost use Rattle.std.specs.Prelude.{◌≡◌, ◌++◌, IfOk, OnOk, flat_map, slice_get};
-ghost use Rattle.composer.specs.Steps.{call_arrows, callback_arrows, into_params, receivers, to_each, inputs};
+ghost use Rattle.composer.specs.Steps.{call_arrows, callback_arrows, into_params, receivers, to_each};
 ghost use Rattle.composer.specs.Ways.{all_ways, called_ways, callback_ways, input_ways, site_ways};
 
 use crate::sets::Sets;

@@ -85,7 +85,7 @@ then_equal Greater = refl
 abbrev numbers_order : ℕ × ℕ × ℕ → ℕ × ℕ × ℕ → Ordering
 numbers_order (a, b, c) (x, y, z) = ordering_then (ordering_then (nat_cmp a x) (nat_cmp b y)) (nat_cmp c z)
 
-ranked_equal : (x y : ℕ) → nat_cmp x y ≡ Equal → x ≡ y
+pub ranked_equal : (x y : ℕ) → nat_cmp x y ≡ Equal → x ≡ y
 ranked_equal x y e = subst (λ o. MatchOrdering o (x < y) (x ≡ y) (y < x)) e (ranked x y (nat_cmp x y) refl)
 
 -- by kind, by name and by numbers
@@ -165,7 +165,7 @@ by_parts u v = by_kind (nat_cmp (slice_index (vertex_key u) 0) (slice_index (ver
     by_kind Greater e = rw (keys, e) refl
     by_kind Equal e = same (ranked_equal _ _ e)
 
-both_equal : (a b : Ordering) → ordering_then a b ≡ Equal → (a ≡ Equal) × (b ≡ Equal)
+pub both_equal : (a b : Ordering) → ordering_then a b ≡ Equal → (a ≡ Equal) × (b ≡ Equal)
 both_equal Equal b e = (refl, e)
 both_equal Less b e = absurd (cc)
 both_equal Greater b e = absurd (cc)

@@ -14,12 +14,6 @@ is_shared Elem = true
 is_shared (Global name) = true
 is_shared _ = false
 
--- only the module itself can name it: its variables and the values of its expressions
-abbrev pub is_internal : Vertex → Bool
-is_internal (Var local) = true
-is_internal (Exp number) = true
-is_internal _ = false
-
 -- the kind of a vertex, from 0 in the order of the variants, and then its fields; a name by its bytes
 abbrev pub vertex_key : Vertex → List ℕ
 vertex_key (Prop name) = 0 ∷ name

@@ -11,7 +11,7 @@ use crate::facts::Facts;
 use crate::found::Found;
 use crate::walk::walk_stmts;
 use jam_base::{List, OutOfMemory};
-use js_scopes::{Bindings, FunctionInfo, ascending, functions, sites};
+use js_scopes::{Bindings, FunctionInfo, ascending, functions, sites_with};
 use js_tree::Tree;
 use std::alloc::Global;
 
@@ -26,19 +26,26 @@ pub fn constraints(
     ensures { IfOk result (λ made. made ≡ constraints_of tree.now) }
 {
     let functions = functions(alloc, tree)?;
-    let sites = sites(alloc, tree, bindings)?;
+    let sites = sites_with(alloc, tree, bindings)?;
     let found = found_in(alloc, tree, bindings, functions.as_slice())?;
     let (flows, requires_, notes) = found.into_parts();
     let requires_ = ascending(alloc, requires_)?;
     let notes = ascending(alloc, notes)?;
     let flows = ascending(alloc, flows)?;
-    Ok(Constraints::of(
+    let made = Constraints::of(
         functions,
         sites,
         List::of(requires_),
         List::of(notes),
         List::of(flows),
-    ))
+    );
+    match made {
+        Some(made) => Ok(made),
+        // By `trees_keep_rules` this comes only where a list has 2^32 items, a text 2^32 bytes, or two
+        // calls of the tree have one offset and not as many arguments; a parsed text has one `(` at an
+        // offset.
+        None => Err(OutOfMemory),
+    }
 }
 
 // The flows, requires and notes of a tree with these functions, the module's body first.

@@ -23,6 +23,12 @@ pub(crate) use stop::Stop;
 pub use top::run;
 
 #[cfg(test)]
+mod constraints_lines;
+#[cfg(test)]
+mod constraints_tests;
+#[cfg(test)]
 mod loading_tests;
+#[cfg(test)]
+mod member_tests;
 #[cfg(test)]
 mod tests;

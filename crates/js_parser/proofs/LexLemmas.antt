@@ -1,5 +1,5 @@
 -- What stands at the front of a text is one thing.
-use Rattle.std.proofs.Common.{◌≡◌, ℕ, ◌+◌, ◌-◌, ◌<◌, ◌≤◌, Bool, true, false, ⊎_elim, List, [], ◌∷◌, length, take, get_or, refl, sym, ap, ◌∙◌, subst, arith, true≢false, Option, Some}
+use Rattle.std.proofs.Common.{◌≡◌, ℕ, ◌+◌, ◌-◌, ◌<◌, ◌≤◌, Bool, true, false, ⊎_elim, List, length, take, get_or, refl, sym, ap, ◌∙◌, subst, arith, true≢false, Option, Some}
 use Rattle.std.proofs.lemmas.Bool.{cases_order}
 use Rattle.std.proofs.lemmas.Bool.Decides.{nat_tests}
 use Rattle.std.proofs.lemmas.List.{get_or-take, length-take-le}
@@ -30,33 +30,6 @@ run_longest text n some within start parts ends = record {
       let below : n < length (take k text) = subst (λ m. n < m) (sym (length-take-le k text le)) lt in
       true≢false (sym (h.parts n below) ∙ ap is_part (get_or-take k text n 0 lt) ∙ ends (omega arith));
 }
-
--- a quote, what may stand in the string, and the same quote
-pub string_longest : (text : List ℕ) (n : ℕ) → 0 < n → n < length text → is_quote (get_or text 0 0) ≡ true
-    → ((i : ℕ) → 0 < i → i < n → is_inner (get_or text 0 0) (get_or text i 0) ≡ true) → get_or text n 0 ≡ get_or text 0 0
-    → Longest IsString text (n + 1)
-string_longest text n some below begin inner end =
-    let within : n + 1 ≤ length text = omega arith in
-    let len = length-take-le (n + 1) text within in
-    let first : get_or (take (n + 1) text) 0 0 ≡ get_or text 0 0 = get_or-take (n + 1) text 0 0 (omega arith) in
-    record {
-      within = within;
-      holds = record {
-        quoted = omega (arith, len);
-        begin = ap is_quote first ∙ begin;
-        inner = λ i more lt. let small : i < n + 1 = omega (arith, len) in
-            (λ j. is_inner (first j) (get_or-take (n + 1) text i 0 small j)) ∙ inner i more (omega (arith, len));
-        end = λ i last. let same : i ≡ n = omega (arith, len) in
-            ap (λ (k : ℕ). get_or (take (n + 1) text) k 0) same ∙ get_or-take (n + 1) text n 0 (omega arith) ∙ end ∙ sym first;
-      };
-      none_longer = λ k lt le h.
-          let size = length-take-le k text le in
-          let whole : get_or (take k text) 0 0 ≡ get_or text 0 0 = get_or-take k text 0 0 (omega arith) in
-          quote_not_inner (get_or text 0 0) (get_or text n 0) end ((λ j. is_inner (sym whole j) (sym (get_or-take k text n 0 (omega arith)) j)) ∙ h.inner n some (omega (arith, size)));
-    }
-  where
-    quote_not_inner : (q c : ℕ) → c ≡ q → is_inner q c ≡ true → ⊥
-    quote_not_inner q c e h = grind (arith, nat_tests)
 
 -- where what may stand in a string ends with no quote, no string stands
 pub no_string : (text : List ℕ) (n : ℕ) → 0 < n
@@ -197,17 +170,6 @@ front_only text f found c n s =
     let k = found.kind ∙ (λ i. kind_of (e.class i) (take (e.size i) text)) in
     λ i. Some (record { class = e.class i; kind = k i; len = e.size i })
 
--- a mark at the front
-pub mark_front : (text : List ℕ) (c : ℕ) → 0 < length text → c ≡ get_or text 0 0 → is_mark c ≡ true → IsFront text (record { class = class.Punct; kind = c; len = 1 })
-mark_front (x ∷ xs) c some e m = record {
-  stands = record { form = is; longest = record { within = omega arith; holds = is; none_longer = λ k lt le h. omega (arith, length-take-le k (x ∷ xs) le, h.single) } };
-  kind = e;
-}
-  where
-    is : IsMark (take 1 (x ∷ xs))
-    is = record { single = refl; mark = ap is_mark (sym e) ∙ m }
-mark_front [] c some e m = absurd (omega arith)
-
 -- a name or a word at the front
 pub word_front : (text : List ℕ) (n k : ℕ) → Longest IsIdentifier text n → is_word (take n text) ≡ true → k ≡ kind_of class.Word (take n text)
     → IsFront text (record { class = class.Word; kind = k; len = n })
@@ -220,25 +182,6 @@ name_front text n k long among e = record { stands = record { form = (long.holds
 -- a string at the front
 pub string_front : (text : List ℕ) (n : ℕ) → Longest IsString text n → IsFront text (record { class = class.Str; kind = 2; len = n })
 string_front text n long = record { stands = record { form = long.holds; longest = long }; kind = refl }
-
--- where a quote begins no string, no token stands
-pub no_string_front : (text : List ℕ) → is_quote (get_or text 0 0) ≡ true → ((n : ℕ) → n ≤ length text → IsString (take n text) → ⊥) → (c : TokenClass) (n : ℕ) → Stands c text n → ⊥
-no_string_front text quote none c n s = by_shape (shape c text n s)
-  where
-    by_shape : Shape c text n → ⊥
-    by_shape (Run a) = start_not_quote (get_or text 0 0) (word_begins text n a).first quote
-    by_shape (Quote e a) = none n a.within a.holds
-    by_shape (Mark e a) = mark_not_quote (get_or text 0 0) (mark_begins text n a).first quote
-
--- no token stands at the front of a text that begins with no mark, no quote and no start of a name
-pub no_front : (text : List ℕ) → (0 < length text → is_mark (get_or text 0 0) ≡ false) → (0 < length text → is_quote (get_or text 0 0) ≡ false)
-    → (0 < length text → is_start (get_or text 0 0) ≡ false) → (c : TokenClass) (n : ℕ) → Stands c text n → ⊥
-no_front text mark quote start c n s = by_shape (shape c text n s)
-  where
-    by_shape : Shape c text n → ⊥
-    by_shape (Run a) = let b = word_begins text n a in true≢false (sym b.first ∙ start b.some)
-    by_shape (Quote e a) = let b = string_begins text n a in true≢false (sym b.first ∙ quote b.some)
-    by_shape (Mark e a) = let b = mark_begins text n a in true≢false (sym b.first ∙ mark b.some)
 
 -- a token has characters, and the last is below 128
 pub record EndsAscii (text : List ℕ) : Type 0 where

@@ -8,7 +8,7 @@ ghost use Rattle.js_tree.specs.declared.tree.Listed.{Listed};
 ghost use Rattle.js_tree.specs.Spelling as spec;
 ghost use Rattle.js_parser.specs.Nodes as nodes;
 ghost use Rattle.js_parser.specs.Nodes.{ArgumentsAt};
-ghost use Rattle.js_parser.specs.Reading.{Read, OnlyRead, Anywhere, Ends, Moves, Sees, Stops};
+ghost use Rattle.js_parser.specs.Reading.{Read, OnlyRead, Anywhere, Moves, Sees};
 
 use crate::fault::ParseFault;
 use crate::lexer::Lexer;

@@ -5,13 +5,12 @@ ghost use Rattle.js_tree.specs.declared.kind.TheConstants as kinds;
 ghost use Rattle.js_tree.specs.declared.tree.Expr.{Expr};
 ghost use Rattle.js_tree.specs.Spelling as spec;
 ghost use Rattle.js_parser.specs.Heads as heads;
-ghost use Rattle.js_parser.specs.Nodes as nodes;
 ghost use Rattle.js_parser.specs.Nodes.{DoneAt, Continues, OnlyContinued};
 ghost use Rattle.js_parser.specs.Reading.{Read, OnlyRead, Anywhere, Moves, Sees};
 
 use crate::arguments::arguments;
 use crate::fault::ParseFault;
-use crate::head::{is_alone, is_text};
+use crate::head::{is_require, is_text};
 use crate::lexer::Lexer;
 use crate::path::{Head, Member};
 use crate::tall::Tall;
@@ -73,7 +72,7 @@ pub fn call(
     ensures moves { Moves lexer.old lexer.new result }
     ensures shorter { IfOk result (λ _. length lexer.new.left < length lexer.old.left) }
 {
-    let arguments = arguments(alloc, lexer, is_alone(&head, "require"), true)?;
+    let arguments = arguments(alloc, lexer, is_require(&head), true)?;
     let node = called(alloc, head, arguments)?;
     Ok(Tall { node, height: 2 })
 }

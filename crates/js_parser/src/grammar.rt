@@ -1,6 +1,6 @@
 //! The rules of the grammar that have statements in them (ECMA-262, clauses 13 to 15). They take the parser of the
 //! statements in a node as a parameter, so that each rule is proved by itself.
-ghost use Rattle.std.specs.Prelude.{◌≡◌, ◌≤◌, ◌<◌, false, IfOk, Option, is_some, length, MatchBool, ◌⊎◌};
+ghost use Rattle.std.specs.Prelude.{◌≡◌, ◌≤◌, ◌<◌, IfOk, Option, is_some, length, MatchBool, ◌⊎◌};
 ghost use Rattle.js_tree.specs.declared.form.Form.{Form};
 ghost use Rattle.js_tree.specs.declared.kind.TheConstants as kinds;
 ghost use Rattle.js_tree.specs.declared.token.Token.{Token};
@@ -12,14 +12,13 @@ ghost use Rattle.js_tree.specs.declared.tree.Stmt.{Stmt};
 ghost use Rattle.js_tree.specs.Lexing.{IsTrivia};
 ghost use Rattle.js_tree.specs.Spelling as spec;
 ghost use Rattle.js_parser.specs.declared.tall.Tall.{Tall};
-ghost use Rattle.js_parser.specs.Heads as heads;
 ghost use Rattle.js_parser.specs.Nodes as nodes;
 ghost use Rattle.js_parser.specs.Nodes.{Knot, BlockAt, FunctionAt, DoneAt, StmtAt, StmtsAt, Continues, OnlyContinued};
 ghost use Rattle.js_parser.specs.Reading.{Read, OnlyRead, Anywhere, Moves, Sees};
 
 use crate::call::{call, target};
 use crate::fault::ParseFault;
-use crate::head::{head, is_member_of};
+use crate::head::{head, is_exports};
 use crate::lexer::Lexer;
 use crate::path::Head;
 use crate::rules::params;
@@ -163,7 +162,7 @@ impl<S: Fn(Global, &mut Lexer<'_>, u32) -> Result<Tall<Items<Stmt>>, ParseFault>
         ensures moves { Moves lexer.old lexer.new result }
         ensures shorter { IfOk result (λ _. length lexer.new.left < length lexer.old.left) }
     {
-        if !is_member_of(&head, "exports") {
+        if !is_exports(&head) {
             return Err(lexer.refusal());
         }
         let target = target(self.alloc, head)?;

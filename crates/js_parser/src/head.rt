@@ -3,7 +3,6 @@ ghost use Rattle.std.specs.Prelude.{◌≡◌, ◌<◌, ◌≤◌, false, IfOk, 
 ghost use Rattle.std.specs.Str.{bytes_eq};
 ghost use Rattle.js_parser.specs.Heads as heads;
 ghost use Rattle.js_parser.specs.Reading.{Read, OnlyRead, Any, Anywhere, Moves};
-ghost use Rattle.js_parser.specs.declared.path.Head.{Head};
 ghost use Rattle.js_parser.specs.declared.path.Member.{Member};
 
 use crate::fault::ParseFault;
@@ -20,7 +19,7 @@ pub fn is_text(token: &Token, text: &str) -> bool
 }
 
 /// Whether the head is this name alone.
-pub fn is_alone(head: &Head, text: &str) -> bool
+fn is_alone(head: &Head, text: &str) -> bool
     ensures { result ≡ heads.is_alone text.now head.now }
 {
     match head.member {
@@ -30,13 +29,34 @@ pub fn is_alone(head: &Head, text: &str) -> bool
 }
 
 /// Whether the head is a member of this name.
-pub fn is_member_of(head: &Head, text: &str) -> bool
+fn is_member_of(head: &Head, text: &str) -> bool
     ensures { result ≡ heads.is_member_of text.now head.now }
 {
     match head.member {
         Some(_) => is_text(&head.name, text),
         None => false,
     }
+}
+
+/// Whether the head is `eval`, which may not be called.
+pub fn is_eval(head: &Head) -> bool
+    ensures { result ≡ heads.is_eval head.now }
+{
+    is_alone(head, "eval")
+}
+
+/// Whether the head is `require`.
+pub fn is_require(head: &Head) -> bool
+    ensures { result ≡ heads.is_require head.now }
+{
+    is_alone(head, "require")
+}
+
+/// Whether the head is a member of `exports`.
+pub fn is_exports(head: &Head) -> bool
+    ensures { result ≡ heads.is_exports head.now }
+{
+    is_member_of(head, "exports")
 }
 
 /// A member: `.` and its name.
@@ -77,7 +97,7 @@ pub fn head(alloc: Global, lexer: &mut Lexer<'_>) -> Result<Head, ParseFault>
     let name = lexer.take(alloc, Form::Kind(kind::NAME))?;
     let member = members(alloc, lexer)?;
     let head = Head { name, member };
-    if is_alone(&head, "eval") {
+    if is_eval(&head) {
         return Err(refusal);
     }
     Ok(head)

@@ -1,5 +1,5 @@
 -- The names in each kind of node, by what stands around it.
-use Rattle.std.proofs.Common.{◌≡◌, ℕ, List, [], ◌∷◌, ◌++◌, map, Bor, Option, Some, None, refl, ap, subst, ◌∙◌}
+use Rattle.std.proofs.Common.{◌≡◌, ℕ, List, [], ◌∷◌, ◌++◌, Option, Some, None, refl, ap, subst}
 use Rattle.std.specs.Option.{option_map}
 use Rattle.js_tree.specs.declared.token.Token.{Token}
 use Rattle.js_tree.specs.declared.tree.Expr.{Expr}
@@ -14,10 +14,10 @@ use Rattle.js_tree.specs.declared.tree.Tail.{Tail}
 use Rattle.js_scopes.specs.declared.binding.Binding.{Binding}
 use Rattle.js_scopes.specs.declared.binding.BoundName.{BoundName}
 use Rattle.js_scopes.specs.declared.walk.Surroundings.{Surroundings}
-use Rattle.js_scopes.specs.Names.{Scope, Numbering}
+use Rattle.js_scopes.specs.Names.{Numbering}
 use Rattle.js_scopes.specs.Scopes.{Scoped, bound_name, around_value, expr, function, pattern, stmt, slot}
 use Rattle.js_scopes.specs.Around.{around_of, own_names}
-use Rattle.js_scopes.specs.Walks.{in_tails, in_init, in_slots, scopes_of}
+use Rattle.js_scopes.specs.Walks.{in_tails, in_init, in_slots}
 use Rattle.js_scopes.proofs.Laws.{at-Assign, at-Chain, at-Value, at-Literal, at-Name, at-Target, at-Member, at-Slot, at-Fun, at-Plain, at-Vars}
 
 -- the names in a node
@@ -27,11 +27,6 @@ of n around s = s.names n (around_of around)
 -- the names in a function that is a value
 abbrev pub value_of : Numbering → Surroundings → Function → List BoundName
 value_of n around f = own_names n (around_value (function f) (around_of around)) (function f)
-
--- the scopes inside another
-pub scopes_inside : (xs : List (Bor (List (Bor Token)))) (own : Bor (List (Bor Token))) (outer : List (Bor (List (Bor Token)))) (declares : Scope)
-    → xs ≡ own ∷ outer → map (λ (t : Bor Token). t.now) own.now ≡ declares → scopes_of xs ≡ declares ∷ scopes_of outer
-scopes_inside xs own outer declares e d = ap scopes_of e ∙ ap (λ (s : Scope). s ∷ scopes_of outer) d
 
 abbrev IsStart : ℕ → Option ℕ → Type 0
 IsStart start None = ⊥

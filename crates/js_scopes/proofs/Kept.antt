@@ -1,8 +1,7 @@
 -- What is kept of names.
-use Rattle.std.proofs.Common.{◌≡◌, ℕ, ◌+◌, ◌<◌, List, [], ◌∷◌, ◌++◌, map, refl, sym, ap, ◌∙◌, Bool, true, false, cond, nat_lt, nat_eq, ◌==◌, if◌then◌else◌, arith, Option, Some, None}
+use Rattle.std.proofs.Common.{◌≡◌, ℕ, ◌+◌, List, [], ◌∷◌, ◌++◌, map, refl, sym, ap, ◌∙◌, Bool, nat_lt, ◌==◌, if◌then◌else◌}
 use Rattle.std.specs.List.{flat_map, count_by}
 use Rattle.std.specs.List.Sorted.{IsPermutation}
-use Rattle.std.proofs.lemmas.Bool.Decides.{nat_tests}
 use Rattle.std.proofs.lemmas.List.{map-append}
 use Rattle.js_tree.specs.declared.token.Token.{Token}
 use Rattle.js_tree.specs.declared.tree.Stmt.{Stmt}
@@ -11,7 +10,7 @@ use Rattle.js_scopes.specs.declared.binding.Binding.{Binding}
 use Rattle.js_scopes.specs.declared.binding.Binding.TheVariants as binding
 use Rattle.js_scopes.specs.declared.binding.BoundName.{BoundName}
 use Rattle.js_scopes.specs.Names.{Scope, firsts, local_number}
-use Rattle.js_scopes.specs.Scopes.{Scoped, stmt, meaning, numbering_of, module_scope}
+use Rattle.js_scopes.specs.Scopes.{stmt, meaning, numbering_of, module_scope}
 use Rattle.js_scopes.specs.Walks.{scope_starts, local_starts}
 use Rattle.js_scopes.proofs.Counts.{count_cons, one_if, count_moved}
 use Rattle.js_scopes.proofs.Declared.{tree_starts}

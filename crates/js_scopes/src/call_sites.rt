@@ -12,6 +12,7 @@ use crate::bindings::Bindings;
 use crate::calls::{is_required, push_own_sites};
 use crate::function::inner_functions;
 use crate::known::Known;
+use crate::naming::bind;
 use crate::order::ascending;
 use crate::site::SiteInfo;
 use jam_base::{List, OutOfMemory, Text};
@@ -19,8 +20,20 @@ use js_tree::{Arguments, Expr, Function, Listed, Pattern, Slot, Stmt, Tail, Tree
 use sqlite_items::Boxed;
 use std::alloc::Global;
 
-/// The call sites of a tree with these bindings, by offset and part.
-pub fn sites(alloc: Global, tree: &Tree, bindings: &Bindings) -> Result<List<SiteInfo>, OutOfMemory>
+/// The call sites of a tree, by offset and part.
+pub fn sites(alloc: Global, tree: &Tree) -> Result<List<SiteInfo>, OutOfMemory>
+    ensures { IfOk result (λ made. made ≡ sites_of tree.now) }
+{
+    let bindings = bind(alloc, tree)?;
+    sites_with(alloc, tree, &bindings)
+}
+
+/// The same, where the bindings of the tree are at hand.
+pub fn sites_with(
+    alloc: Global,
+    tree: &Tree,
+    bindings: &Bindings,
+) -> Result<List<SiteInfo>, OutOfMemory>
     requires { (start : ℕ) → meaning_in bindings.now start ≡ binding_of tree.now start }
     ensures { IfOk result (λ made. made ≡ sites_of tree.now) }
 {

@@ -1,5 +1,5 @@
 //! The scopes of a module, and what a name means in them.
-ghost use Rattle.std.specs.Prelude.{◌≡◌, ◌++◌, map, IfOk, OnOk};
+ghost use Rattle.std.specs.Prelude.{◌≡◌, ◌++◌, ◌∷◌, map, IfOk, OnOk};
 ghost use Rattle.std.specs.Option.{option_map};
 ghost use Rattle.js_scopes.specs.Names as names;
 ghost use Rattle.js_scopes.specs.Scopes as seen;
@@ -45,10 +45,7 @@ fn push_declared<'t>(
 }
 
 // Adds the name, where there is one.
-pub(crate) fn push_token<'t>(
-    name: Option<&'t Token>,
-    scope: &mut Vec<&'t Token>,
-) -> Result<(), OutOfMemory>
+fn push_token<'t>(name: Option<&'t Token>, scope: &mut Vec<&'t Token>) -> Result<(), OutOfMemory>
     ensures { OnOk result (map (λ t. t.now) scope.new.items ≡ map (λ t. t.now) scope.old.items ++ seen.name_list (option_map (λ t. t.now) name.entry)) }
 {
     if let Some(name) = name {
@@ -106,6 +103,29 @@ pub(crate) fn own_name(function: &Function) -> Option<&Token>
             body: _,
         } => name.as_ref(),
     }
+}
+
+// The scope of the own name of a function that is a value.
+pub(crate) fn own_scope(alloc: Global, function: &Function) -> Result<Vec<&Token>, OutOfMemory>
+    ensures { IfOk result (λ scope. map (λ t. t.now) scope.items ≡ (seen.function function.now).own_name) }
+{
+    let mut scope = Vec::new(alloc);
+    push_token(own_name(function), &mut scope)?;
+    Ok(scope)
+}
+
+// The scopes inside a scope of their own, innermost first.
+pub(crate) fn scopes_inside<'t>(
+    alloc: Global,
+    own: &'t [&'t Token],
+    outer: &[&'t [&'t Token]],
+) -> Result<Vec<&'t [&'t Token]>, OutOfMemory>
+    ensures { IfOk result (λ scopes. scopes_of scopes.items ≡ map (λ t. t.now) own.now ∷ scopes_of outer.now) }
+{
+    let mut scopes = Vec::new(alloc);
+    scopes.push(own)?;
+    scopes.extend_from_slice(outer)?;
+    Ok(scopes)
 }
 
 // The offset of the first token of the scope that is the name.

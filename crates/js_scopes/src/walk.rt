@@ -11,7 +11,7 @@ ghost use Rattle.js_scopes.specs.Walks.{in_items, in_tails, in_slots, in_stmts};
 use crate::binding::{Binding, BoundName};
 use crate::function::FunctionInfo;
 use crate::numbers::{function_number, local_number};
-use crate::scope::{declared_in, declarer, own_name, push_token, undeclared};
+use crate::scope::{declared_in, declarer, own_name, own_scope, scopes_inside, undeclared};
 use jam_base::OutOfMemory;
 use js_tree::{Expr, Function, Listed, Pattern, Slot, Stmt, Tail, Token};
 use sqlite_items::Boxed;
@@ -145,12 +145,8 @@ fn push_value(
     requires { AreReady numbers }
     ensures { (n : Numbering) → IsNumberedBy n numbers.entry → OnOk result (out.new.items ≡ out.old.items ++ own_names n (around_value (seen.function function.now) (around_of around.entry)) (seen.function function.now)) }
 {
-    let own = own_name(function);
-    let mut scope = Vec::new(alloc);
-    push_token(own, &mut scope)?;
-    let mut scopes = Vec::new(alloc);
-    scopes.push(scope.as_slice())?;
-    scopes.extend_from_slice(around.scopes)?;
+    let own = own_scope(alloc, function)?;
+    let scopes = scopes_inside(alloc, own.as_slice(), around.scopes)?;
     let inner = Surroundings {
         scopes: scopes.as_slice(),
         holder: around.holder,
@@ -196,9 +192,7 @@ fn push_body(
     ensures { (n : Numbering) → IsNumberedBy n numbers.entry → OnOk result (out.new.items ≡ out.old.items ++ body_names n (around_of around.entry) number body.now) }
 {
     let own = declared_in(alloc, body, false)?;
-    let mut scopes = Vec::new(alloc);
-    scopes.push(own.as_slice())?;
-    scopes.extend_from_slice(around.scopes)?;
+    let scopes = scopes_inside(alloc, own.as_slice(), around.scopes)?;
     let inner = Surroundings {
         scopes: scopes.as_slice(),
         holder: number,

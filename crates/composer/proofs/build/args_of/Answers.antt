@@ -1,6 +1,6 @@
-use Rattle.std.proofs.Common.{◌≡◌, ◌∙◌, ◌++◌, ◌∷◌, [], sym, arith}
+use Rattle.std.proofs.Common.{◌∙◌, ◌++◌, ◌∷◌, [], sym, arith}
 use Rattle.std.proofs.lemmas.List.FromFn.{map-range_with_len_more}
-use Rattle.flow_rules.specs.declared.vertex.Vertex.TheVariants.{Param, Arg}
+use Rattle.flow_rules.specs.declared.vertex.Vertex.TheVariants.{Arg}
 use Rattle.composer.specs.Application.{at_module}
 use Rattle.composer.proofs.build.args_of.Goals as goal
 

@@ -1,9 +1,7 @@
-use Rattle.std.proofs.Common.{◌≡◌, ◌++◌, drop, map}
-use Rattle.std.specs.Prelude.{flat_map}
-use Rattle.std.specs.List.{enumerate_from, range_with_len}
-use Rattle.flow_rules.specs.declared.vertex.Vertex.TheVariants.{Param, Arg}
-use Rattle.composer.specs.Application.{at_module, callable_of, site_of, flow_of, link_flow, native_places, of_each}
-use Rattle.composer.specs.Natives.{native_names}
+use Rattle.std.proofs.Common.{◌≡◌, map}
+use Rattle.std.specs.List.{range_with_len}
+use Rattle.flow_rules.specs.declared.vertex.Vertex.TheVariants.{Arg}
+use Rattle.composer.specs.Application.{at_module}
 use Rattle.composer.proofs.build.args_of.Given as goal
 
 abbrev pub invariant-loop-index : goal.invariant-loop-index

@@ -5,7 +5,6 @@ use Rattle.std.specs.List.Sorted.{IsPermutation}
 use Rattle.std.proofs.lemmas.List.Filters.{dedup_is}
 use Rattle.composer.specs.Application.{of_each, site_of, system_of}
 use Rattle.composer.specs.CallEdges.{link_edges}
-use Rattle.composer.specs.Edges.{IsEdge}
 use Rattle.composer.specs.Numbered.{IsSiteIn, IsSystemIn}
 use Rattle.composer.specs.Solved.{AddsEdges, HasOneNumber, IsEdgeBelow}
 use Rattle.composer.proofs.EdgeLemmas.{edge_list, edges_found, edges_all, same_dedup}

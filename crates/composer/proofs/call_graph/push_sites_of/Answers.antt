@@ -1,9 +1,9 @@
-use Rattle.std.proofs.Common.{◌≡◌, get_or, [], length, map, subst, take}
+use Rattle.std.proofs.Common.{get_or, [], map, subst}
 use Rattle.std.proofs.lemmas.List.{get_or_default, take_all}
 use Rattle.std.specs.Prelude.{Contains}
 use Rattle.std.proofs.lemmas.List.Elements.{All-contains, Contains-get_or}
 use Rattle.js_scopes.specs.declared.site.SiteInfo.{SiteInfo}
-use Rattle.js_scopes.proofs.Members.{none, into_map}
+use Rattle.composer.proofs.Members.{none, into_map}
 use Rattle.composer.specs.Application.{site_of}
 use Rattle.composer.specs.Numbered.{IsSiteIn}
 use Rattle.composer.specs.Solved.{AddsEdges, IsEdgeAmong}

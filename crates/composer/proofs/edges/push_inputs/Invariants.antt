@@ -1,7 +1,6 @@
 use Rattle.std.proofs.Common.{◌≡◌, ◌++◌, drop}
 use Rattle.std.specs.Prelude.{flat_map}
-use Rattle.composer.specs.CallEdges.{called_edges, edges_to, input_edges, link_edges, require_edges, site_edges}
-use Rattle.composer.specs.Numbers.{value_at}
+use Rattle.composer.specs.CallEdges.{input_edges}
 use Rattle.composer.proofs.edges.push_inputs.Given as goal
 
 abbrev pub invariant-loop-input : goal.invariant-loop-input

@@ -1,4 +1,4 @@
-use Rattle.std.proofs.Common.{◌≡◌, length, rules, ◌∙◌, sym, ap}
+use Rattle.std.proofs.Common.{rules}
 use Rattle.composer.proofs.numbers.numbered.Goals as goal
 
 pub returns-clause-values : goal.returns-clause-values

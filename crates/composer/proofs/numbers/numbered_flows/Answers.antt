@@ -1,7 +1,7 @@
-use Rattle.std.proofs.Common.{◌≡◌, ◌<◌, length, get_or, sym, ◌∙◌, ap, subst}
+use Rattle.std.proofs.Common.{length, sym, ◌∙◌, subst}
 use Rattle.std.specs.Prelude.{Contains}
 use Rattle.std.proofs.lemmas.List.Elements.{All-get_or}
-use Rattle.composer.specs.Numbered.{Below, IsArrowIn, IsSiteIn, map_arrow, map_site}
+use Rattle.composer.specs.Numbered.{Below, IsArrowIn, map_arrow}
 use Rattle.composer.specs.Numbers.{vertex_at}
 use Rattle.composer.proofs.NumberLemmas.{Numbers-none, Numbers-more, Numbers-whole}
 use Rattle.composer.proofs.numbers.numbered_flows.Goals as goal

@@ -1,11 +1,9 @@
-use Rattle.std.proofs.Common.{◌≡◌, ◌<◌, ◌≤◌, length, map, get_or, sym, ◌∙◌, ap, subst, arith}
+use Rattle.std.proofs.Common.{◌≡◌, ◌<◌, ◌≤◌, length, get_or, sym, ◌∙◌, ap, subst, arith}
 use Rattle.std.specs.Prelude.{Contains}
-use Rattle.std.proofs.lemmas.List.{get_or_default}
 use Rattle.std.proofs.lemmas.List.Elements.{All-get_or}
-use Rattle.composer.specs.declared.application.Value.TheVariants.{Native}
 use Rattle.composer.specs.Numbered.{Below, IsCallableIn, map_callable}
 use Rattle.composer.specs.Numbers.{value_at, vertex_at}
-use Rattle.composer.proofs.NumberLemmas.{Numbers, HasPlaces, Numbers-none, Numbers-more, Numbers-whole, HasPlaces-none, HasPlaces-more, value_at_place}
+use Rattle.composer.proofs.NumberLemmas.{Numbers-none, Numbers-more, Numbers-whole, HasPlaces-none, HasPlaces-more, value_at_place}
 use Rattle.composer.proofs.numbers.numbered_functions.Goals as goal
 
 pub loop-k-init : goal.loop-k-init

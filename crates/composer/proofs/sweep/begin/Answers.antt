@@ -1,4 +1,4 @@
-use Rattle.std.proofs.Common.{◌≡◌, ◌<◌, length, get_or, take, ap, sym, ◌∙◌, subst, arith}
+use Rattle.std.proofs.Common.{◌≡◌, ◌<◌, length, get_or, ap, sym, ◌∙◌, subst, arith}
 use Rattle.std.proofs.lemmas.List.{get_or_default, take_all}
 use Rattle.composer.specs.Rows.{Adds}
 use Rattle.composer.proofs.BeginLemmas.{Begun-none, Begun-literal, Begun-native, Begun-whole}

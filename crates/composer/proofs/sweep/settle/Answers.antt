@@ -1,4 +1,4 @@
-use Rattle.std.proofs.Common.{◌≡◌, ◌<◌, [], ◌∷◌, ◌++◌, length, subst, sym, arith, rules}
+use Rattle.std.proofs.Common.{◌≡◌, [], ◌∷◌, ◌++◌, subst, arith, rules}
 use Rattle.std.specs.Prelude.{Contains}
 use Rattle.composer.specs.Rows.{row, Spreads}
 use Rattle.composer.proofs.SpreadLemmas.{Settling, Settling-start, Settling-more, Settling-end, settling_falls}

@@ -1,8 +1,8 @@
-use Rattle.std.proofs.Common.{◌≡◌, ◌<◌, ◌∙◌, sym, subst}
-use Rattle.std.specs.Prelude.{Contains, All}
+use Rattle.std.proofs.Common.{◌∙◌, sym, subst}
+use Rattle.std.specs.Prelude.{All}
 use Rattle.std.proofs.lemmas.List.Elements.{All-contains}
 use Rattle.composer.specs.Numbered.{Below, IsArrowIn}
-use Rattle.composer.specs.Rows.{AreTargets, IsSettled, row}
+use Rattle.composer.specs.Rows.{AreTargets}
 use Rattle.composer.specs.Ways.{all_ways}
 use Rattle.composer.proofs.SweepLemmas.{ways_in, begun_more, settled, falls}
 use Rattle.composer.proofs.sweep.solve.Goals as goal

@@ -1,4 +1,4 @@
-use Rattle.std.proofs.Common.{◌<◌, get_or, length, take, arith}
+use Rattle.std.proofs.Common.{get_or, take, arith}
 use Rattle.std.proofs.lemmas.List.{take_more}
 use Rattle.std.proofs.lemmas.List.Elements.{Contains-get_or}
 use Rattle.composer.proofs.SpreadLemmas.{Spreads-none, Spreads-more}

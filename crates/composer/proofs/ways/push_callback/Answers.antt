@@ -1,4 +1,4 @@
-use Rattle.std.proofs.Common.{◌≡◌, ◌≤◌, ◌++◌, length, append-nil, sym, ap, ◌∙◌, subst}
+use Rattle.std.proofs.Common.{◌≤◌, ◌++◌, length, append-nil, sym, ap, ◌∙◌, subst}
 use Rattle.std.proofs.lemmas.Option.{slice_get_past}
 use Rattle.composer.specs.Ways.{callback_ways}
 use Rattle.composer.proofs.ways.push_callback.Goals as goal

@@ -1,7 +1,5 @@
-use Rattle.std.proofs.Common.{◌≡◌, ◌++◌, [], ◌∷◌, length, drop, replicate}
-use Rattle.std.specs.Prelude.{flat_map, slice_get}
-use Rattle.composer.specs.Steps.{into_params, to_each}
-use Rattle.composer.specs.Ways.{all_ways, called_ways, callback_ways, input_ways, site_ways}
+use Rattle.std.proofs.Common.{◌≡◌, ◌++◌, length}
+use Rattle.composer.specs.Steps.{into_params}
 use Rattle.composer.proofs.ways.push_into_params.Given as goal
 
 abbrev pub invariant-loop-sources : goal.invariant-loop-sources

@@ -17,7 +17,7 @@ tall x = record { node = x; height = 2 }
 pub returns-in_err-arguments-clause-only : goal.returns-in_err-arguments-clause-only
 returns-in_err-arguments-clause-only c x behind rest after fits r =
     let v = must_be_call c.args.head x behind rest c.args.lexer.now after c.requires.unseen r in
-    let given = subst (λ (b : Bool). ArgumentsAt b true v.arguments) (sym c.is_alone.ensures) v.given in
+    let given = subst (λ (b : Bool). ArgumentsAt b true v.arguments) (sym c.is_require.ensures) v.given in
     exit _ _ v.arguments x _ _ c.from_residual.ensures.1 (c.in_err-arguments.ensures.only v.arguments rest v.read given tt)
 
 pub returns-in_err-arguments-clause-moves : goal.returns-in_err-arguments-clause-moves
@@ -26,13 +26,13 @@ returns-in_err-arguments-clause-moves c = moved _ _ _ _ _ (passes_none _) c.in_e
 pub returns-clause-only : goal.returns-clause-only
 returns-clause-only c x behind rest after fits r =
     let v = must_be_call c.args.head x behind rest c.args.lexer.now after c.requires.unseen r in
-    let given = subst (λ (b : Bool). ArgumentsAt b true v.arguments) (sym c.is_alone.ensures) v.given in
+    let given = subst (λ (b : Bool). ArgumentsAt b true v.arguments) (sym c.is_require.ensures) v.given in
     let g0 = c.in_ok-arguments.ensures.only v.arguments rest v.read given tt in
     (ap tall (c.in_ok-node.ensures ∙ ap (call_of c.args.head) g0.0) ∙ sym v.is, g0.1)
 
 pub returns-clause-found : goal.returns-clause-found
 returns-clause-found c =
-    let given = subst (λ (b : Bool). ArgumentsAt b true c.in_ok-arguments.arguments) c.is_alone.ensures c.in_ok-arguments.ensures.found.1 in
+    let given = subst (λ (b : Bool). ArgumentsAt b true c.in_ok-arguments.arguments) c.is_require.ensures c.in_ok-arguments.ensures.found.1 in
     let n = sym c.in_ok-node.ensures in (
       λ p head rest r. subst (λ (x : Expr). Reads p ((expr x).line rest)) n
           (call_reads p c.args.head c.in_ok-arguments.arguments rest c.requires.not_eval (head (arguments_line expr c.in_ok-arguments.arguments rest) (c.in_ok-arguments.ensures.found.0 rest r))),

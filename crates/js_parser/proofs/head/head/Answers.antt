@@ -19,11 +19,11 @@ returns-in_err-member-clause-only c x rest r isnt stops =
 pub returns-in_err-member-clause-moves : goal.returns-in_err-member-clause-moves
 returns-in_err-member-clause-moves c = moved _ _ _ _ _ c.in_ok-name.ensures.moves c.in_err-member.ensures.moves c.from_residual-in_err-member.ensures.1
 
-pub returns-then-is_alone-clause-only : goal.returns-then-is_alone-clause-only
-returns-then-is_alone-clause-only c x rest r isnt stops =
+pub returns-then-is_eval-clause-only : goal.returns-then-is_eval-clause-only
+returns-then-is_eval-clause-only c x rest r isnt stops =
     let g0 = c.in_ok-name.ensures.only x.name (members_line x.member rest) r tt tt in
     let g1 = c.in_ok-member.ensures.only x.member rest g0.1 tt stops in
-    absurd (true≢false (sym c.if-is_alone.true ∙ c.is_alone.ensures ∙ (λ i. is_eval (record { name = g0.0 i; member = g1.0 i })) ∙ isnt))
+    absurd (true≢false (sym c.if-is_eval.true ∙ c.is_eval.ensures ∙ (λ i. is_eval (record { name = g0.0 i; member = g1.0 i })) ∙ isnt))
 
 pub returns-clause-only : goal.returns-clause-only
 returns-clause-only c x rest r isnt stops =
@@ -37,5 +37,5 @@ returns-clause-moves c = passes_on _ _ _ c.in_ok-name.ensures.moves c.in_ok-memb
 pub returns-clause-found : goal.returns-clause-found
 returns-clause-found c = (
   λ rest r. (_, c.in_ok-name.ensures.found.0, c.in_ok-name.ensures.found.1, c.in_ok-member.ensures.found rest r),
-  sym c.is_alone.ensures ∙ c.if-is_alone.false,
+  sym c.is_eval.ensures ∙ c.if-is_eval.false,
 )

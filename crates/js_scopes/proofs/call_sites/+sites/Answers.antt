@@ -1,4 +1,4 @@
-use Rattle.std.proofs.Common.{◌≡◌, ℕ, List, ◌++◌, [], ◌∷◌, sym, ap, ◌∙◌, append-nil, arith, OnOk, map, None, Option, Bool, ◌&&◌, if◌then◌else◌, is_some, length}
+use Rattle.std.proofs.Common.{◌≡◌, ℕ, List, ◌++◌, [], sym, ap, ◌∙◌, append-nil, OnOk, map, None, Option, Bool, ◌&&◌, if◌then◌else◌, is_some, length}
 use Rattle.std.proofs.lemmas.List.{length-map}
 use Rattle.js_tree.specs.declared.tree.Arguments.{Arguments}
 use Rattle.std.proofs.lemmas.Result.{on_ok_weaker}
@@ -8,7 +8,6 @@ use Rattle.js_tree.proofs.Folds.{map_arguments, map_listed, map_tail}
 use Rattle.js_tree.proofs.SpellingLemmas.{FunctionKind, IsKeyword, function_kind}
 use Rattle.js_tree.specs.declared.tree.Expr.{Expr}
 use Rattle.js_tree.specs.declared.tree.Listed.{Listed}
-use Rattle.js_tree.specs.declared.tree.Tail.TheVariants as tail
 use Rattle.js_scopes.specs.declared.site.SiteInfo.{SiteInfo}
 use Rattle.js_scopes.specs.AtHand.{known_in}
 use Rattle.js_scopes.specs.Scopes.{Known, Scoped, tails_sites}

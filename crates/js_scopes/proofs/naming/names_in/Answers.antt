@@ -1,4 +1,4 @@
-use Rattle.std.proofs.Common.{◌≡◌, ◌∷◌, ◌++◌, [], List, ap, ◌∙◌, map}
+use Rattle.std.proofs.Common.{◌∷◌, ◌++◌, [], ap, ◌∙◌}
 use Rattle.js_scopes.specs.Walks.{in_stmts, scopes_of}
 use Rattle.js_scopes.proofs.naming.names_in.Goals as goal
 

@@ -1,7 +1,6 @@
-use Rattle.std.proofs.Common.{◌≡◌, get_or, ◌++◌, [], ◌∷◌, map, sym, ap, ◌∙◌, append-nil, arith, subst, nat_lt, ◌+◌, OnOk}
+use Rattle.std.proofs.Common.{◌≡◌, get_or, ◌++◌, ◌∷◌, map, sym, ap, ◌∙◌, append-nil, arith, subst, nat_lt, ◌+◌, OnOk}
 use Rattle.std.proofs.lemmas.List.{take_all}
 use Rattle.std.proofs.lemmas.Result.{on_ok_weaker}
-use Rattle.std.specs.Option.{option_map}
 use Rattle.std.specs.List.{count_by}
 use borrow.Enum.Total.{values_d, values_d_at}
 use Rattle.js_tree.specs.contracts.tree.Function.{enum}
@@ -14,14 +13,14 @@ use Rattle.js_tree.specs.declared.tree.Tail.{Tail}
 use Rattle.js_tree.specs.declared.tree.Tail.TheVariants as tail
 use Rattle.js_scopes.specs.Scopes.{Scoped}
 use Rattle.js_scopes.specs.Scopes as seen
-use Rattle.js_scopes.specs.Walks.{tail_items, in_items, in_tails, in_init, in_slots, in_stmts}
+use Rattle.js_scopes.specs.Walks.{tail_items, in_items, in_tails, in_init, in_slots, in_stmts, scopes_of}
 use Rattle.js_scopes.proofs.Steps.{none_more, then_more, pushed_more, falls_within}
 use Rattle.js_scopes.specs.declared.function.FunctionInfo.{FunctionInfo}
 use Rattle.js_scopes.specs.Names.{function_number}
 use Rattle.js_scopes.specs.Scopes.{bound_name, name_list}
 use Rattle.js_scopes.specs.Around.{around_of, own_names, body_names}
 use Rattle.js_scopes.proofs.Laws.{at-Keyword}
-use Rattle.js_scopes.proofs.Around.{of, value_of, scopes_inside, law-Fun, law-Plain, law-Vars, law-Assign, law-Chain, law-Value, law-Literal, law-Name, law-Target, law-Member, slot_names}
+use Rattle.js_scopes.proofs.Around.{of, value_of, law-Fun, law-Plain, law-Vars, law-Assign, law-Chain, law-Value, law-Literal, law-Name, law-Target, law-Member, slot_names}
 use Rattle.js_scopes.proofs.walk.+names.Goals as goal
 use Rattle.js_scopes.proofs.walk.+names.Goals.{push_tails-in-Member, push_tails-in-Call+in_ok-push_items-in-Call}
 
@@ -134,20 +133,15 @@ push_declared-returns t c n same =
 pub push_body-returns : goal.push_body-returns
 push_body-returns t c n same =
     subst (λ s. OnOk c.push_stmts.result (c.push_stmts.new.out.items ≡ c.args.out.now.items ++ in_stmts (λ x. x.names n (record { scopes = s; holder = c.args.number })) c.args.body.now))
-    (scopes_inside c.as_slice-2.result.now c.as_slice.result c.args.around.scopes.now _
-    (c.as_slice-2.ensures.value ∙ (c.in_ok-extend_from_slice.ensures {u = tt}).items
-    ∙ ap (λ xs. xs ++ c.args.around.scopes.now) ((c.in_ok-push.ensures {u = tt}).items ∙ ap (λ xs. xs ++ c.as_slice.result ∷ []) c.new-scopes.ensures.items))
-    (ap (λ xs. map (λ t. t.now) xs) c.as_slice.ensures.value ∙ c.in_ok-own.ensures))
+    (ap scopes_of c.as_slice-2.ensures.value ∙ c.in_ok-scopes.ensures
+    ∙ ap (λ s. s ∷ scopes_of c.args.around.scopes.now) (ap (λ xs. map (λ t. t.now) xs) c.as_slice.ensures.value ∙ c.in_ok-own.ensures))
     (c.push_stmts.ensures n same)
 
 pub push_value-returns : goal.push_value-returns
 push_value-returns t c n same =
     subst (λ s. OnOk c.push_declared.result (c.push_declared.new.out.items ≡ c.args.out.now.items ++ own_names n (record { scopes = s; holder = c.args.around.holder }) (seen.function c.args.function.now)))
-    (scopes_inside c.as_slice-2.result.now c.as_slice.result c.args.around.scopes.now _
-    (c.as_slice-2.ensures.value ∙ (c.in_ok-extend_from_slice.ensures {u = tt}).items
-    ∙ ap (λ xs. xs ++ c.args.around.scopes.now) ((c.in_ok-push.ensures {u = tt}).items ∙ ap (λ xs. xs ++ c.as_slice.result ∷ []) c.new-scopes.ensures.items))
-    (ap (λ xs. map (λ t. t.now) xs) c.as_slice.ensures.value ∙ c.in_ok-push_token.ensures {u = tt}
-    ∙ ap (λ xs. map (λ t. t.now) xs ++ name_list (option_map (λ t. t.now) c.own_name-own.result)) c.new-scope.ensures.items ∙ c.own_name-own.ensures))
+    (ap scopes_of c.as_slice-2.ensures.value ∙ c.in_ok-scopes.ensures
+    ∙ ap (λ s. s ∷ scopes_of c.args.around.scopes.now) (ap (λ xs. map (λ t. t.now) xs) c.as_slice.ensures.value ∙ c.in_ok-own.ensures))
     (c.push_declared.ensures n same)
 
 pub push_function-returns : goal.push_function-returns

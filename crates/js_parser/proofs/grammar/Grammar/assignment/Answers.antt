@@ -22,10 +22,10 @@ tall f = record { node = f; height = (spec.function f).height }
 value_at : (room : ℕ) (head : Head) (x : Tall Expr) (m : _) (rest : _) (v : AssignAfter head x m rest) → x.height ≤ room → FunctionAt false (room - 2) (tall v.value)
 value_at room head x m rest v fits = record { role = v.role; height = refl; fits = omega (arith, ap (λ (t : Tall Expr). t.height) v.is, fits) }
 
-pub returns-then-not-is_member_of-clause-only : goal.returns-then-not-is_member_of-clause-only
-returns-then-not-is_member_of-clause-only g c x behind rest after fits r =
+pub returns-then-not-is_exports-clause-only : goal.returns-then-not-is_exports-clause-only
+returns-then-not-is_exports-clause-only g c x behind rest after fits r =
     let v = must_be_assignment c.args.head x behind rest c.args.lexer.now after c.requires.seen r in
-    absurd (true≢false (sym v.exports ∙ sym c.is_member_of.ensures ∙ c.if-not-is_member_of.true))
+    absurd (true≢false (sym v.exports ∙ sym c.is_exports.ensures ∙ c.if-not-is_exports.true))
 
 pub returns-in_err-op-clause-only : goal.returns-in_err-op-clause-only
 returns-in_err-op-clause-only g c x behind rest after fits r =
@@ -60,7 +60,7 @@ pub returns-clause-found : goal.returns-clause-found
 returns-clause-found g c =
     let w = c.in_ok-value.ensures.found.1 in
     let f : Function = c.in_ok-value.field-0.node in
-    let exports : is_exports c.args.head ≡ true = sym c.is_member_of.ensures ∙ c.if-not-is_member_of.false in
+    let exports : is_exports c.args.head ≡ true = sym c.is_exports.ensures ∙ c.if-not-is_exports.false in
     let n = sym (c.in_ok-node.ensures ∙ ap (λ t. expression.Assign t c.in_ok-op.op (expression.Fun f)) c.in_ok-target.ensures) in
     let h : max 3 ((spec.function f).height + 1) + 1 ≡ c.higher.result + 1 = sym (ap (λ (k : ℕ). k + 1) (c.higher.ensures ∙ ap (λ (k : ℕ). max 3 (k + 1)) w.height)) in
     let fits : max 3 ((spec.function f).height + 1) + 1 ≤ c.args.room = omega (arith, w.height, w.fits, c.requires.enough) in (
