@@ -1,4 +1,9 @@
+pub mod CallRules
 pub mod Laws
+pub mod LawLemmas
+pub mod NodeRules
 pub mod Order
 pub mod RuleLemmas
+pub mod SortedLemmas
+pub mod TreeRules
 pub mod WalkLemmas

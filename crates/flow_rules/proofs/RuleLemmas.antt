@@ -39,7 +39,7 @@ below_or_not : (k i : ℕ) → (k < i) ⊎ (i ≤ k)
 below_or_not k i = grind arith
 
 module _ {X : Type 0} (R : X → X → Ordering) (o : IsTotalOrder R) where
-  below_all : (x y : X) (zs : List X) → R x y ≡ Less → AllByRecursion (λ z. R y z ≡ Less) zs → AllByRecursion (λ z. R x z ≡ Less) zs
+  pub below_all : (x y : X) (zs : List X) → R x y ≡ Less → AllByRecursion (λ z. R y z ≡ Less) zs → AllByRecursion (λ z. R x z ≡ Less) zs
   below_all x y [] h a = tt
   below_all x y (z ∷ zs) h a = (o.trans x y z h a.0, below_all x y zs h a.1)
 

@@ -41,9 +41,9 @@ pub fn constraints(
     );
     match made {
         Some(made) => Ok(made),
-        // A list has 2^32 items, or a text 2^32 bytes, or two calls of the tree have one offset and not
-        // as many arguments (a parsed text has one `(` at an offset). That the lists of every other
-        // tree keep the rules is not proved.
+        // By `trees_keep_rules` this comes only where a list has 2^32 items, a text 2^32 bytes, or two
+        // calls of the tree have one offset and not as many arguments; a parsed text has one `(` at an
+        // offset.
         None => Err(OutOfMemory),
     }
 }

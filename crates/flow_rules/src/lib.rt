@@ -7,6 +7,7 @@ mod found;
 mod front;
 mod gather;
 mod heads;
+mod law;
 mod module;
 mod module_constraints;
 mod numbers;
@@ -16,6 +17,7 @@ mod vertex;
 mod walk;
 
 pub use gather::constraints;
+pub use law::trees_keep_rules;
 pub use module::{Flow, ModuleNote, NoteKind, Require};
 pub use module_constraints::Constraints;
 pub use vertex::Vertex;

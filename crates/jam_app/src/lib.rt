@@ -29,6 +29,8 @@ mod constraints_lines;
 #[cfg(test)]
 mod constraints_tests;
 #[cfg(test)]
+mod loading_tests;
+#[cfg(test)]
 mod member_tests;
 #[cfg(test)]
 mod tests;

@@ -11,10 +11,19 @@ use std::thread::Threads;
 
 // What a run is over, and what it left.
 #[derive(Drop)]
-struct Bench {
-    folder: MemFolder,
-    out: MemSink,
-    err: MemSink,
+pub(crate) struct Bench {
+    pub(crate) folder: MemFolder,
+    pub(crate) out: MemSink,
+    pub(crate) err: MemSink,
+}
+
+// No files, and an output that takes all.
+pub(crate) fn empty_bench(alloc: Global) -> Bench {
+    Bench {
+        folder: MemFolder::new(alloc),
+        out: MemSink::new(alloc),
+        err: MemSink::new(alloc),
+    }
 }
 
 // A folder with this text at this path, whose call with this number fails, and an output with this room.
@@ -32,7 +41,7 @@ fn set_up(alloc: Global, path: &str, text: &[u8], failing: u64, room: u64) -> Re
     })
 }
 
-fn ran<R: Threads + Sync, L: Ledger>(
+pub(crate) fn ran<R: Threads + Sync, L: Ledger>(
     rt: &R,
     alloc: Global,
     bench: &mut Bench,
@@ -59,7 +68,7 @@ fn ran<R: Threads + Sync, L: Ledger>(
 }
 
 // The words of a line, which stand between spaces.
-fn words_of(alloc: Global, line: &str) -> Result<Vec<Text>, Fail> {
+pub(crate) fn words_of(alloc: Global, line: &str) -> Result<Vec<Text>, Fail> {
     let mut words = Vec::new(alloc);
     for word in line.split(' ') {
         words.push(Text::of(alloc, word)?)?;
@@ -68,7 +77,7 @@ fn words_of(alloc: Global, line: &str) -> Result<Vec<Text>, Fail> {
 }
 
 // Compares what a run left: its status, the output and the line on err.
-fn compare(rt: &impl Abort, bench: &Bench, status: &Status, number: u8, out: &str, err: &str) {
+pub(crate) fn compare(rt: &impl Abort, bench: &Bench, status: &Status, number: u8, out: &str, err: &str) {
     assert_eq!(rt; status.number(), number, "{out}{err}");
     assert_eq!(rt; bench.out.bytes(), out.as_bytes());
     assert_eq!(rt; bench.err.bytes(), err.as_bytes());
