@@ -21,7 +21,8 @@ use Rattle.jam_app.specs.declared.rounds.Progress.{Progress}
 use Rattle.jam_app.specs.declared.size.Size.{Size}
 use Rattle.jam_app.specs.Entries.{entry_path}
 use Rattle.jam_app.specs.Loading.{IsKept, IsWhole, module_of}
-use Rattle.jam_app.specs.Progress.{IsHeld, Stands, found_at, size_of}
+use Rattle.jam_app.specs.Parts.{IsAnalysed}
+use Rattle.jam_app.specs.Progress.{ArePlaced, IsHeld, Stands, found_at, size_of}
 use Rattle.jam_app.specs.Refusals.{IsFirstBad, IsOneTooMany, IsReached, IsRefusal, no_entry, not_in_profile, too_large, too_many}
 use Rattle.jam_app.specs.Rounds.{Ascend, Fits, IsApplication, IsLoaded, IsModuleOf, IsRound, IsTreeOf, LoadedModule, NoneBad, bytes_at, spelled, total_bytes}
 use Rattle.jam_app.specs.Texts.{IsBad, IsSpelled}
@@ -29,6 +30,30 @@ use Rattle.jam_app.proofs.Keeping.{path_of}
 use Rattle.jam_app.proofs.RoundLemmas.{before_loaded, empty_after, loaded_before, round_within}
 use Rattle.jam_app.proofs.Sizes.{total_append}
 use Rattle.jam_app.proofs.Steps.{size_fits}
+
+-- what is found in an empty map
+none_found : (modules : BTreeMap (List ℕ) Loaded) → modules.entries ≡ [] → (path : List ℕ) → found_at modules path ≡ None
+none_found modules empty path = ap (λ (es : List (List ℕ × Loaded)). lookup (tree.is_at (slice_cmp nat_cmp path)) es) empty
+
+-- the modules of a map under whose paths they are, each with what holds of all that is found
+held_all : (P : Loaded → Type 0) (modules : BTreeMap (List ℕ) Loaded) → ((path : List ℕ) (l : Loaded) → found_at modules path ≡ Some l → (l.path ≡ path) × P l)
+    → (es : List (List ℕ × Loaded)) → All (λ e. found_at modules e.0 ≡ Some e.1) es → (map path_of (values_of es) ≡ keys_of es) × All P (values_of es)
+held_all P modules held [] found = (refl, All-nil P)
+held_all P modules held (e ∷ es) found =
+    let Q : List ℕ × Loaded → Type 0 = λ e. found_at modules e.0 ≡ Some e.1 in
+    let one = held e.0 e.1 (All-head Q e es found) in
+    let more = held_all P modules held es (All-tail Q e es found) in
+    ((λ i. one.0 i ∷ more.0 i), All-cons P e.1 (values_of es) one.1 more.1)
+
+pub placed_none : (modules : BTreeMap (List ℕ) Loaded) → modules.entries ≡ [] → ArePlaced modules
+placed_none modules empty path l is = absurd (none-some l (sym (none_found modules empty path) ∙ is))
+
+module _ (modules : BTreeMap (List ℕ) Loaded) (listed : List Loaded) (ordered : IsOrdered (slice_cmp nat_cmp) modules) (placed : ArePlaced modules) (listed_is : listed ≡ tree.values modules) where
+  pub placed_ascend : Ascend (map path_of listed)
+  placed_ascend = subst Ascend (sym (ap (map path_of) listed_is ∙ (held_all IsAnalysed modules placed modules.entries (All-found nat_list_cmp_total modules ordered)).0)) ordered
+
+  pub placed_analysed : All IsAnalysed listed
+  placed_analysed = subst (All IsAnalysed) (sym listed_is) (held_all IsAnalysed modules placed modules.entries (All-found nat_list_cmp_total modules ordered)).1
 
 -- the entry alone stands first
 pub stands_first : (m : Files) (operand entry : List ℕ) (progress : Progress) → entry_path operand m ≡ Some entry → progress.modules.entries ≡ [] → progress.size ≡ record { modules = 0; bytes = 0 }
@@ -41,15 +66,9 @@ stands_first m operand entry progress found empty size = record {
   is_round = (refl, refl);
   none_bad = All-nil (λ (p : List ℕ). IsBad (bytes_at m p) → ⊥);
   size = size;
-  here = λ path. (λ h. absurd (true≢false (sym (sym (ap (is_held path) empty) ∙ h))), λ h. absurd (none path h));
-  held = λ path l is. absurd (none-some l (sym (ap (held_in path) empty) ∙ is));
+  here = λ path. (λ h. absurd (true≢false (sym (sym (ap is_some (none_found progress.modules empty path)) ∙ h))), λ h. absurd (none path h));
+  held = λ path l is. absurd (none-some l (sym (none_found progress.modules empty path) ∙ is));
 }
-  where
-    held_in : List ℕ → List (List ℕ × Loaded) → Option Loaded
-    held_in path es = lookup (tree.is_at (slice_cmp nat_cmp path)) es
-
-    is_held : List ℕ → List (List ℕ × Loaded) → Bool
-    is_held path es = is_some (held_in path es)
 
 prefix_fits : (m : Files) (all xs rest : List (List ℕ)) → all ≡ xs ++ rest → Fits m all → Fits m xs
 prefix_fits m all xs rest parts fits =
@@ -92,14 +111,6 @@ module _ (m : Files) (operand : List ℕ) (progress : Progress) (stands : Stands
   none_owed fits owed (too_large path first over) = no_first_bad path first
   none_owed fits owed (not_in_profile path at first within refused) = no_first_bad path first
 
-  held_all : (es : List (List ℕ × Loaded)) → All (λ e. found_at progress.modules e.0 ≡ Some e.1) es → (map path_of (values_of es) ≡ keys_of es) × All (λ l. (l.bytes.items ≡ bytes_at m l.path) × IsKept m l) (values_of es)
-  held_all [] found = (refl, All-nil (λ (l : Loaded). (l.bytes.items ≡ bytes_at m l.path) × IsKept m l))
-  held_all (e ∷ es) found =
-      let P : List ℕ × Loaded → Type 0 = λ e. found_at progress.modules e.0 ≡ Some e.1 in
-      let held = stands.held e.0 e.1 (All-head P e es found) in
-      let more = held_all es (All-tail P e es found) in
-      ((λ i. held.at i ∷ more.0 i), All-cons (λ (l : Loaded). (l.bytes.items ≡ bytes_at m l.path) × IsKept m l) e.1 (values_of es) (held.bytes, held.kept) more.1)
-
   map_map : (ls : List Loaded) → map (λ (x : LoadedModule). x.path) (map module_of ls) ≡ map path_of ls
   map_map [] = refl
   map_map (l ∷ ls) = ap (λ ps. l.path ∷ ps) (map_map ls)
@@ -109,7 +120,7 @@ module _ (m : Files) (operand : List ℕ) (progress : Progress) (stands : Stands
   is_whole listed few room ordered listed_is =
       subst (IsWhole operand m) (sym listed_is) (
       let values = tree.values progress.modules in
-      let all = held_all progress.modules.entries (All-found nat_list_cmp_total progress.modules ordered) in
+      let all = held_all (λ l. (l.bytes.items ≡ bytes_at m l.path) × IsKept m l) progress.modules (λ path l is. (let held = stands.held path l is in (held.at, (held.bytes, held.kept)))) progress.modules.entries (All-found nat_list_cmp_total progress.modules ordered) in
       let paths : map (λ (x : LoadedModule). x.path) (map module_of values) ≡ tree.keys progress.modules = map_map values ∙ all.0 in
       record {
         entry = stands.entry;

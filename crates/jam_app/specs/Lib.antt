@@ -3,6 +3,7 @@ pub mod Graphs
 pub mod Loading
 pub mod Numbers
 pub mod Outcomes
+pub mod Parts
 pub mod Progress
 pub mod Refusals
 pub mod Requests

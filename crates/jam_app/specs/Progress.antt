@@ -16,6 +16,7 @@ use Rattle.jam_app.specs.declared.size.Size.{Size}
 use Rattle.jam_app.specs.declared.source.Source.{Source}
 use Rattle.jam_app.specs.Entries.{entry_path, module_path}
 use Rattle.jam_app.specs.Loading.{IsKept}
+use Rattle.jam_app.specs.Parts.{IsAnalysed}
 use Rattle.jam_app.specs.Refusals.{IsRefusedAt, counted_bytes}
 use Rattle.jam_app.specs.Rounds.{bytes_at, total_bytes, IsRound, Fits, NoneBad}
 use Rattle.jam_app.specs.Texts.{IsBad, IsOnlyTree}
@@ -83,6 +84,10 @@ led_from l = map (λ t. t.path) l.targets.items
 -- the loaded module at a path
 abbrev pub found_at : tree.BTreeMap (List ℕ) Loaded → List ℕ → Option Loaded
 found_at modules path = tree.get (slice_cmp nat_cmp) modules path
+
+-- each module is under its own path, and is what its text says
+abbrev pub ArePlaced : tree.BTreeMap (List ℕ) Loaded → Type 0
+ArePlaced modules = (path : List ℕ) (l : Loaded) → found_at modules path ≡ Some l → (l.path ≡ path) × IsAnalysed l
 
 -- the module under the path is the one of the file there
 pub record IsHeld (files : Files) (path : List ℕ) (l : Loaded) : Type 0 where

@@ -3,6 +3,7 @@ ghost use Rattle.std.specs.Prelude.{◌≡◌, ◌≤◌, ◌++◌, map, All, If
 ghost use Rattle.std.specs.List.{filter_map};
 ghost use Rattle.std.specs.Option.{option_to_list};
 ghost use Rattle.flow_rules.specs.Flows.{constraints_of};
+ghost use Rattle.jam_app.specs.Parts.{IsAnalysed};
 ghost use Rattle.jam_app.specs.Progress as progress;
 ghost use Rattle.jam_app.specs.Progress.{HasBad, IsRead, IsRefusedFor, source_of};
 ghost use Rattle.jam_app.specs.Texts.{IsOnlyTree};
@@ -104,6 +105,7 @@ fn module_with<F: Folder>(
     requires { IsOnlyTree source.bytes.items tree }
     ensures gives { Gives (λ m l. (source_of l ≡ source) × IsRead m l)
         (λ m owed. ⊥) (F.files folder.old) (F.faults folder.old) (F.faults folder.new) result }
+    ensures analysed { IfOk result IsAnalysed }
     ensures same { F.files folder.new ≡ F.files folder.old }
     ensures later { F.faults folder.old ≤ F.faults folder.new }
 {
@@ -128,6 +130,7 @@ fn module_of<F: Folder, L: Ledger>(
 ) -> Result<Loaded, Stop>
     ensures gives { Gives (λ m l. (source_of l ≡ source) × IsRead m l)
         (λ m owed. IsRefusedFor source.path source.bytes.items owed) (F.files folder.old) (F.faults folder.old) (F.faults folder.new) result }
+    ensures analysed { IfOk result IsAnalysed }
     ensures same { F.files folder.new ≡ F.files folder.old }
     ensures later { F.faults folder.old ≤ F.faults folder.new }
 {
@@ -146,6 +149,7 @@ pub(crate) fn modules_of<F: Folder, L: Ledger>(
 ) -> Result<Vec<Loaded>, Stop>
     ensures gives { Gives (λ m modules. (map source_of modules.items ≡ sources.items) × All (IsRead m) modules.items)
         (λ m owed. HasBad sources.items owed) (F.files folder.old) (F.faults folder.old) (F.faults folder.new) result }
+    ensures analysed { IfOk result (λ modules. All IsAnalysed modules.items) }
     ensures same { F.files folder.new ≡ F.files folder.old }
     ensures later { F.faults folder.old ≤ F.faults folder.new }
 {

@@ -6,7 +6,8 @@ ghost use Rattle.std.specs.Cmp.Lexicographic.{slice_cmp};
 ghost use Rattle.std.specs.Ordering.{nat_cmp};
 ghost use Rattle.jam_app.specs.declared.loaded.Loaded.{Loaded as AnyLoaded};
 ghost use Rattle.jam_app.specs.Loading.{IsWhole};
-ghost use Rattle.jam_app.specs.Progress.{Stands, found_at, led_from};
+ghost use Rattle.jam_app.specs.Parts.{IsAnalysed};
+ghost use Rattle.jam_app.specs.Progress.{ArePlaced, Stands, found_at, led_from};
 ghost use Rattle.jam_app.specs.Refusals.{IsRefusal};
 ghost use Rattle.jam_app.specs.Rounds.{Ascend};
 ghost use Rattle.jam_app.specs.Work.{Gives};
@@ -115,6 +116,7 @@ fn load_round<F: Folder, L: Ledger>(
         (λ m next. (operand : List ℕ) → Stands operand m progress.old round.items → Stands operand m progress.new next.items)
         (λ m owed. (operand : List ℕ) → Stands operand m progress.old round.items → IsRefusal operand m owed)
         (F.files folder.old) (F.faults folder.old) (F.faults folder.new) result }
+    ensures placed { OnOk result (ArePlaced progress.old.modules → ArePlaced progress.new.modules) }
     ensures counted { OnOk result (progress.new.size.modules ≡ progress.old.size.modules + length round.items) }
     ensures modules { OnOk result (progress.new.size.modules ≤ 16384) }
     ensures bytes { OnOk result (progress.new.size.bytes ≤ 67108864) }
@@ -155,6 +157,8 @@ pub(crate) fn load<F: Folder, L: Ledger>(
 ) -> Result<Vec<Loaded>, Stop>
     ensures gives { Gives (λ m loaded. IsWhole operand.now m loaded.items) (IsRefusal operand.now)
         (F.files folder.old) (F.faults folder.old) (F.faults folder.new) result }
+    ensures sorted { IfOk result (λ loaded. Ascend (map (λ l. l.path) loaded.items)) }
+    ensures analysed { IfOk result (λ loaded. All IsAnalysed loaded.items) }
     ensures same { F.files folder.new ≡ F.files folder.old }
     ensures later { F.faults folder.old ≤ F.faults folder.new }
 {

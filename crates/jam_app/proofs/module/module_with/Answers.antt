@@ -8,3 +8,6 @@ use Rattle.jam_app.proofs.module.module_with.Goals as goal
 pub returns-clause-gives : goal.returns-clause-gives
 returns-clause-gives g c =
     told (g.F.Folder.files c.args.folder.now) c.in_ok-targets.ensures.gives (λ m targets. (refl, is_read m _ c.requires c.in_ok-constraints.ensures (targets ∙ ap (filter_map (led_by m c.args.source.path)) c.requires_.ensures)))
+
+pub returns-clause-analysed : goal.returns-clause-analysed
+returns-clause-analysed g c = record { spelled = c.requires.spelled; constraints = c.in_ok-constraints.ensures }

@@ -3,6 +3,7 @@ use Rattle.std.specs.Prelude.{All}
 use Rattle.std.specs.Option.{IfSome}
 use Rattle.std.proofs.lemmas.List.{append_assoc, map-append}
 use Rattle.std.proofs.lemmas.List.Elements.{All-push}
+use Rattle.jam_app.specs.Parts.{IsAnalysed}
 use Rattle.jam_app.specs.Progress.{IsRead, IsRefusedFor, source_of}
 use Rattle.jam_app.proofs.Bad.{bad_in}
 use Rattle.jam_app.proofs.Causes.{both_told, handed_on, told}
@@ -23,6 +24,7 @@ loop-source-preserved g c =
         ap (map source_of) c.in_ok-push.ensures.items ∙ map-append source_of c.loop-source.modules.items (c.in_ok-module.module ∷ []) ∙ (λ i. r.0 i ++ s.0 i ∷ []),
         subst (All (IsRead m)) (sym c.in_ok-push.ensures.items) (All-push (IsRead m) c.loop-source.modules.items c.in_ok-module.module r.1 s.1),
       ));
+      analysed = subst (All IsAnalysed) (sym c.in_ok-push.ensures.items) (All-push IsAnalysed c.loop-source.modules.items c.in_ok-module.module inv.analysed c.in_ok-module.ensures.analysed);
       same = c.in_ok-module.ensures.same ∙ inv.same;
       later = omega (arith, c.in_ok-module.ensures.later, inv.later);
     }

@@ -5,7 +5,7 @@ use Rattle.jam_app.specs.Progress.{Stands}
 use Rattle.jam_app.specs.Refusals.{IsRefusal}
 use Rattle.jam_app.proofs.Ends.{is_nothing, not_empty}
 use Rattle.jam_app.proofs.Causes.{both_told, handed_on, told}
-use Rattle.jam_app.proofs.Whole.{is_whole, stands_first}
+use Rattle.jam_app.proofs.Whole.{is_whole, placed_analysed, placed_ascend, placed_none, stands_first}
 use Rattle.jam_app.proofs.rounds.load.Goals as goal
 
 pub loop-alloc-init : goal.loop-alloc-init
@@ -14,6 +14,7 @@ loop-alloc-init g c =
     record {
       stands = told (g.F.Folder.files c.args.folder.now) c.in_ok-entry.ensures.gives (λ m found. subst (Stands c.args.operand.now m progress) (sym c.in_ok-round.ensures.items)
           (stands_first m c.args.operand.now c.in_ok-entry.entry progress found c.new.ensures.empty refl));
+      placed = placed_none c.new.result c.new.ensures.empty;
       modules = omega arith;
       bytes = omega arith;
       same = c.in_ok-entry.ensures.same;
@@ -30,6 +31,7 @@ loop-alloc-preserved g c =
     = subst (λ fs. IfSome fs (λ m. (operand : List ℕ) → Stands operand m old c.loop-alloc.round.items → Stands operand m new c.in_ok-round-2.round.items)) inv.same c.in_ok-round-2.ensures.gives in
     record {
       stands = both_told files inv.stands step (λ m stands next. next c.args.operand.now stands);
+      placed = c.in_ok-round-2.ensures.placed inv.placed;
       modules = c.in_ok-round-2.ensures.modules;
       bytes = c.in_ok-round-2.ensures.bytes;
       same = c.in_ok-round-2.ensures.same ∙ inv.same;
@@ -54,3 +56,9 @@ returns-clause-gives g c =
     told (g.F.Folder.files c.args.folder.now) c.loop-alloc.invariant.stands (λ m stands.
         is_whole m c.args.operand.now c.loop-alloc.progress (subst (Stands c.args.operand.now m c.loop-alloc.progress) none stands) c.in_ok-by_path.field-0.items c.loop-alloc.invariant.modules c.loop-alloc.invariant.bytes
         c.in_ok-by_path.ensures.ordered c.in_ok-by_path.ensures.listed)
+
+pub returns-clause-sorted : goal.returns-clause-sorted
+returns-clause-sorted g c = placed_ascend c.loop-alloc.progress.modules c.in_ok-by_path.field-0.items c.in_ok-by_path.ensures.ordered c.loop-alloc.invariant.placed c.in_ok-by_path.ensures.listed
+
+pub returns-clause-analysed : goal.returns-clause-analysed
+returns-clause-analysed g c = placed_analysed c.loop-alloc.progress.modules c.in_ok-by_path.field-0.items c.in_ok-by_path.ensures.ordered c.loop-alloc.invariant.placed c.in_ok-by_path.ensures.listed

@@ -1,11 +1,12 @@
 use Rattle.std.proofs.Common.{◌≡◌, ◌≤◌, ◌-◌}
 use Rattle.std.specs.Option.{IfSome}
-use Rattle.jam_app.specs.Progress.{Stands}
+use Rattle.jam_app.specs.Progress.{ArePlaced, Stands}
 use Rattle.jam_app.proofs.rounds.load.Given as goal
 
 abbrev pub invariant-loop-alloc : goal.invariant-loop-alloc
 invariant-loop-alloc g l = record {
   stands : IfSome (g.F.Folder.files l.fn.folder) (λ m. Stands l.operand m l.progress l.round.items);
+  placed : ArePlaced l.progress.modules;
   modules : l.progress.size.modules ≤ 16384;
   bytes : l.progress.size.bytes ≤ 67108864;
   same : g.F.Folder.files l.folder ≡ g.F.Folder.files l.fn.folder;

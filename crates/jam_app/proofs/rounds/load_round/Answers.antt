@@ -1,9 +1,11 @@
-use Rattle.std.proofs.Common.{◌≡◌, ℕ, ◌++◌, ◌≤◌, List, map, arith, ap, sym, subst, ◌∙◌}
+use Rattle.std.proofs.Common.{◌≡◌, ℕ, ◌++◌, ◌≤◌, List, map, arith, ap, sym, subst, ⊎_elim, ◌∙◌}
 use Rattle.std.specs.Prelude.{All}
 use Rattle.std.specs.List.{flat_map}
 use Rattle.std.specs.Option.{IfSome}
 use Rattle.jam_base.specs.Files.{Files}
 use Rattle.jam_app.specs.declared.loaded.Loaded.{Loaded}
+use Rattle.std.proofs.lemmas.List.Elements.{All-contains}
+use Rattle.jam_app.specs.Parts.{IsAnalysed}
 use Rattle.jam_app.specs.Progress.{HasBad, HasExcess, IsRead, file_at, file_of, led_from, size_of, source_of}
 use Rattle.jam_app.proofs.Causes.{any_files, both_told, handed_on, told}
 use Rattle.jam_app.proofs.Steps.{refuses_bad, refuses_excess, stands_next}
@@ -34,3 +36,7 @@ returns-clause-gives g c =
     both_told files c.in_ok-sources.ensures.gives made (λ m read made operand stands.
         stands_next m operand c.args.progress.now _ c.in_ok-sources.sources.items c.in_ok-modules.modules.items c.args.round.items c.in_ok-paths.paths.items c.in_ok-not_loaded.field-0.items stands read.0 made.0 made.1 read.1
         (record { here = c.in_ok-keep.ensures.here; which = c.in_ok-keep.ensures.which }) (c.in_ok-paths.ensures ∙ ap (flat_map led_from) c.as_slice.ensures.value) c.in_ok-not_loaded.ensures.sorted c.in_ok-not_loaded.ensures.here)
+
+pub returns-clause-placed : goal.returns-clause-placed
+returns-clause-placed g c placed path l is =
+    ⊎_elim (λ old. placed path l old) (λ new. (new.0, All-contains IsAnalysed c.in_ok-modules.modules.items l c.in_ok-modules.ensures.analysed new.1)) (c.in_ok-keep.ensures.which path l is)
