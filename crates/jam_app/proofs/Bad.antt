@@ -1,7 +1,7 @@
 -- Modules without a tree.
-use Rattle.std.proofs.Common.{◌≡◌, ℕ, ◌∷◌, ◌++◌, List, map, ap, sym, subst, ◌∙◌, Option, Some, None}
+use Rattle.std.proofs.Common.{◌≡◌, ℕ, ◌∷◌, ◌++◌, List, map, sym, subst, Option, Some, None}
 use Rattle.std.specs.Prelude.{All}
-use Rattle.std.proofs.lemmas.List.Elements.{All-map, All-same, All-weaker}
+use Rattle.std.proofs.lemmas.List.Elements.{All-map, All-weaker}
 use Rattle.jam_base.specs.Files.{Files}
 use Rattle.jam_app.specs.declared.loaded.Loaded.{Loaded}
 use Rattle.jam_app.specs.declared.refusal.Refusal.{Refusal}
