@@ -43,8 +43,7 @@ module _ (old : List ℕ → Option Loaded) (modules : List Loaded) (path : List
       let last : Contains (map path_of (modules ++ l ∷ [])) q = subst (λ (ps : List (List ℕ)). Contains ps q) (sym paths) (subst (λ p. Contains (map path_of modules ++ l.path ∷ []) p) (sym at ∙ same refl) (Contains-push (map path_of modules) l.path)) in
       (λ h. inr last, λ h. subst (λ (o : Option Loaded). IsSome o) (sym is) refl)
   more_here false q was new same test is here =
-      let paths : map path_of (modules ++ l ∷ []) ≡ map path_of modules ++ l.path ∷ [] = map-append path_of modules (l ∷ []) in
-      (
+      let paths : map path_of (modules ++ l ∷ []) ≡ map path_of modules ++ l.path ∷ [] = map-append path_of modules (l ∷ []) in (
         λ h. ⊎_elim (λ g. inl g) (λ g. inr (subst (λ (ps : List (List ℕ)). Contains ps q) (sym paths) (Contains-append_left (map path_of modules) (l.path ∷ []) q g))) (here.0 (subst (λ (o : Option Loaded). IsSome o) is h)),
         λ h. subst (λ (o : Option Loaded). IsSome o) (sym is) (⊎_elim (λ g. here.1 (inl g))
             (λ g. ⊎_elim (λ k. here.1 (inr k)) (λ k. absurd (true≢false (sym (test (at ∙ k))))) (Contains-push_cases (map path_of modules) l.path q (subst (λ (ps : List (List ℕ)). Contains ps q) paths g))) h),

@@ -13,7 +13,7 @@ use Rattle.js_parser.specs.declared.fault.ParseFault.TheVariants as fault
 use Rattle.js_parser.specs.Answers.{TellsTooLarge, IsPlaced, IsTree}
 use Rattle.js_parser.specs.Reading.{IsStop}
 use Rattle.jam_app.specs.Refusals.{IsRefusedAt, not_ascii, stopped}
-use Rattle.jam_app.specs.Texts.{is_ascii, IsSpelled, IsOnlyTree, IsBad}
+use Rattle.jam_app.specs.Texts.{is_ascii, IsOnlyTree, IsBad}
 
 -- bytes that pass the test are ASCII
 pub ascii_bytes : (bytes : List ℕ) → is_ascii bytes ≡ true → IsAscii bytes

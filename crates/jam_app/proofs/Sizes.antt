@@ -1,5 +1,5 @@
 -- How many modules there are, and how many bytes they have.
-use Rattle.std.proofs.Common.{◌≡◌, ℕ, ◌+◌, ◌<◌, ◌≤◌, Bool, true, false, List, [], ◌∷◌, ◌++◌, length, nat_lt, refl, ap, sym, subst, ◌∙◌, arith, add_assoc, zero-add, length-append, append_assoc, cond, map, Option, None}
+use Rattle.std.proofs.Common.{◌≡◌, ℕ, ◌+◌, ◌<◌, ◌≤◌, true, List, [], ◌∷◌, ◌++◌, length, nat_lt, ap, sym, subst, ◌∙◌, arith, add_assoc, zero-add, length-append, append_assoc, cond, map, Option, None}
 use Rattle.std.specs.Option.{IfSome}
 use Rattle.std.proofs.lemmas.List.{append-nil, map-append}
 use Rattle.std.proofs.lemmas.Bool.Decides.{nat_tests}
@@ -11,10 +11,9 @@ use Rattle.jam_app.specs.declared.source.Source.{Source}
 use Rattle.jam_app.specs.declared.stop.Stop.{Stop}
 use Rattle.jam_app.specs.declared.stop.Stop.TheVariants.{Refused}
 use Rattle.jam_app.specs.Progress.{HasExcess, IsExcess, file_at, file_of, size_of}
-use Rattle.jam_app.specs.Refusals.{counted_bytes}
 use Rattle.jam_app.specs.Work.{HasStopCause}
 use Rattle.jam_app.proofs.Causes.{told}
-use Rattle.jam_app.specs.Rounds.{bytes_at, byte_limit, module_limit, total_bytes, Fits}
+use Rattle.jam_app.specs.Rounds.{bytes_at, module_limit, total_bytes}
 
 pub total_append : (m : Files) (xs ys : List (List ℕ)) → total_bytes m (xs ++ ys) ≡ total_bytes m xs + total_bytes m ys
 total_append m [] ys = sym (zero-add (total_bytes m ys))
@@ -84,4 +83,4 @@ excess_stop size path bytes files before now vec_len n stop ok len few room over
     let P : Files → Refusal → Type 0 = λ m owed. (earlier : List (List ℕ)) → size ≡ size_of m earlier → IsExcess m earlier path owed in
     subst (HasStopCause P files before now) (sym is)
     (told files read (λ m r earlier of. subst (λ k. IsExcess m earlier path (refusal.TooMany (size.modules + 1) (size.bytes + k))) (sym long)
-        (excess_bytes m size earlier path bytes few room (omega (arith, over, long)) r of)))
+    (excess_bytes m size earlier path bytes few room (omega (arith, over, long)) r of)))

@@ -1,31 +1,21 @@
 -- How far loading has come, from round to round.
-use Rattle.std.proofs.Common.{◌≡◌, ℕ, zero, suc, ◌+◌, ◌<◌, ◌≤◌, List, [], ◌∷◌, ◌++◌, length, map, refl, ap, sym, subst, ◌∙◌, arith, inl, inr, ⊎_elim, Option, Some, None}
+use Rattle.std.proofs.Common.{◌≡◌, ℕ, List, [], ◌∷◌, ◌++◌, map, refl, ap, sym, subst, ◌∙◌, Option}
 use Rattle.std.specs.Prelude.{◌↔◌, All, Contains, IsSome}
 use Rattle.std.specs.List.{flat_map}
-use Rattle.std.proofs.lemmas.List.{append_assoc, map-append}
-use Rattle.std.proofs.lemmas.List.Elements.{All-append, All-contains, All-cons, All-head, All-map, All-nil, All-tail, All-weaker, Contains-append_cases, Contains-append_left, Contains-append_right}
-use Rattle.std.proofs.lemmas.Option.{none-some}
+use Rattle.std.proofs.lemmas.List.Elements.{All-contains, All-cons, All-head, All-map, All-nil, All-tail}
 use Rattle.jam_base.specs.Files.{Files}
 use Rattle.flow_rules.specs.Flows.{requires_of}
-use Rattle.node_resolve.specs.declared.target.Target.{Target}
 use Rattle.node_resolve.specs.declared.target.Target.TheVariants as target
 use Rattle.node_resolve.specs.Targets.{target_of}
 use Rattle.composer.proofs.Members.{from_flat_map, from_map, into_flat_map, into_map, none}
 use Rattle.js_tree.specs.declared.tree.Tree.{Tree}
-use Rattle.js_tree.specs.Spells.{limit}
 use Rattle.jam_app.specs.declared.loaded.Led.{Led}
 use Rattle.jam_app.specs.declared.loaded.Loaded.{Loaded}
-use Rattle.jam_app.specs.declared.refusal.Refusal.{Refusal}
-use Rattle.jam_app.specs.declared.rounds.Progress.{Progress}
-use Rattle.jam_app.specs.declared.size.Size.{Size}
 use Rattle.jam_app.specs.declared.source.Source.{Source}
-use Rattle.jam_app.specs.Entries.{entry_path}
-use Rattle.jam_app.specs.Progress as progress
-use Rattle.jam_app.specs.Progress.{HasBad, HasExcess, IsHeld, IsRead, IsRefusedFor, Stands, file_at, file_of, found_at, led_from, size_of, source_of}
-use Rattle.jam_app.specs.Refusals.{IsFirstBad, IsRefusal, not_in_profile, too_large, too_many}
-use Rattle.jam_app.specs.Rounds.{Ascend, Fits, IsNextRound, IsRequired, IsRequiredAmong, IsRound, IsTreeOf, NoneBad, bad, bytes_at, spelled}
+use Rattle.jam_app.specs.Progress.{IsRead, file_at, file_of, led_from, source_of}
+use Rattle.jam_app.specs.Rounds.{Ascend, IsNextRound, IsRequiredAmong, IsTreeOf, NoneBad, bad, bytes_at, spelled}
 use Rattle.jam_app.specs.Texts.{IsBad, IsSpelled}
-use Rattle.jam_app.proofs.Keeping.{Kept, path_of}
+use Rattle.jam_app.proofs.Keeping.{path_of}
 
 -- the modules of a round, in order: each is the one of the file at its path
 pub record AreOf (m : Files) (modules : List Loaded) (round : List (List ℕ)) : Type 0 where
@@ -95,14 +85,17 @@ module _ (m : Files) (modules : List Loaded) (round paths : List (List ℕ)) (of
       let found = from_flat_map led_from modules path (subst (λ (ps : List (List ℕ)). Contains ps path) paths_are h) in
       let l = found.0 in
       let led = from_map (λ (t : Led). t.path) l.targets.items path found.2 in
-      let leads = ((read_here l found.1).kept.targets led.0).0 led.1 in
-      (l.path, in_round l found.1, record {
-        tree = l.tree;
-        tree_is = subst (λ (bs : List ℕ). IsTreeOf bs l.tree) (bytes_here l found.1) (spelled (read_here l found.1).kept.spelled);
-        require = leads.require;
-        here = leads.here;
-        target_is = leads.target_is ∙ ap (λ (p : List ℕ). target.Module p) led.2;
-      })
+      let leads = ((read_here l found.1).kept.targets led.0).0 led.1 in (
+        l.path,
+        in_round l found.1,
+        record {
+          tree = l.tree;
+          tree_is = subst (λ (bs : List ℕ). IsTreeOf bs l.tree) (bytes_here l found.1) (spelled (read_here l found.1).kept.spelled);
+          require = leads.require;
+          here = leads.here;
+          target_is = leads.target_is ∙ ap (λ (p : List ℕ). target.Module p) led.2;
+        },
+      )
 
   -- what is required is where a require leads
   required_leads : (path : List ℕ) → IsRequiredAmong m round path → Contains paths path

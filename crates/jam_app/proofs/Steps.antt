@@ -1,5 +1,5 @@
 -- What a round leads to: the next one, or a refusal.
-use Rattle.std.proofs.Common.{◌≡◌, ℕ, suc, ◌+◌, ◌<◌, ◌≤◌, List, [], ◌∷◌, ◌++◌, length, map, refl, ap, sym, subst, ◌∙◌, arith, inl, inr, ⊎_elim}
+use Rattle.std.proofs.Common.{◌≡◌, ℕ, suc, ◌<◌, ◌≤◌, List, [], ◌∷◌, ◌++◌, length, map, refl, ap, sym, subst, ◌∙◌, arith, inl, inr, ⊎_elim}
 use Rattle.std.specs.Prelude.{◌↔◌, All, Contains, IsSome}
 use Rattle.std.specs.List.{flat_map}
 use Rattle.std.proofs.lemmas.List.{append_assoc, map-append}
@@ -14,10 +14,10 @@ use Rattle.jam_app.specs.declared.size.Size.{Size}
 use Rattle.jam_app.specs.declared.source.Source.{Source}
 use Rattle.jam_app.specs.Progress as progress
 use Rattle.jam_app.specs.Progress.{HasBad, HasExcess, IsHeld, IsRead, IsRefusedFor, Stands, file_at, file_of, found_at, led_from, size_of, source_of}
-use Rattle.jam_app.specs.Refusals.{IsFirstBad, IsReached, IsRefusal, not_in_profile, too_large, too_many}
+use Rattle.jam_app.specs.Refusals.{IsFirstBad, IsRefusal, not_in_profile, too_large, too_many}
 use Rattle.jam_app.specs.Rounds.{Ascend, Fits, IsRound, NoneBad, bytes_at, total_bytes}
-use Rattle.jam_app.specs.Texts.{IsBad, IsSpelled}
-use Rattle.jam_app.proofs.Keeping.{Kept, path_of}
+use Rattle.jam_app.specs.Texts.{IsBad}
+use Rattle.jam_app.proofs.Keeping.{Kept}
 use Rattle.jam_app.proofs.Standing.{are_of, next_round, round_none_bad, whole_files}
 
 -- what has this size is within the limits where the size is

@@ -27,7 +27,11 @@ fn modules_are_loaded_from_round_to_round(rt: HostRuntime) -> Result<(), Fail> {
     for (b, number, err) in [
         // A cycle, a module that is required twice, targets that aren't there, and one above the folder.
         ("require(\"./index\"); require(\"./c\");", 0, ""),
-        ("require(\"./c\"); require(\"./c.js\"); require(\"./b\");", 0, ""),
+        (
+            "require(\"./c\"); require(\"./c.js\"); require(\"./b\");",
+            0,
+            "",
+        ),
         ("require(\"./d\"); require(\"../c\");", 0, ""),
         // The target of a require in a folder, and a file that is no code.
         ("require(\"./a/e\"); require(\"./f.json\");", 0, ""),

@@ -77,7 +77,14 @@ pub(crate) fn words_of(alloc: Global, line: &str) -> Result<Vec<Text>, Fail> {
 }
 
 // Compares what a run left: its status, the output and the line on err.
-pub(crate) fn compare(rt: &impl Abort, bench: &Bench, status: &Status, number: u8, out: &str, err: &str) {
+pub(crate) fn compare(
+    rt: &impl Abort,
+    bench: &Bench,
+    status: &Status,
+    number: u8,
+    out: &str,
+    err: &str,
+) {
     assert_eq!(rt; status.number(), number, "{out}{err}");
     assert_eq!(rt; bench.out.bytes(), out.as_bytes());
     assert_eq!(rt; bench.err.bytes(), err.as_bytes());

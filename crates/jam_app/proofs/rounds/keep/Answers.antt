@@ -1,6 +1,5 @@
-use Rattle.std.proofs.Common.{◌≡◌, ◌++◌, ◌∷◌, [], List, map, ap, subst, sym, ◌∙◌}
+use Rattle.std.proofs.Common.{◌≡◌, ◌++◌, ◌∷◌, [], ap, subst, sym, ◌∙◌}
 use Rattle.std.proofs.lemmas.List.{append_assoc}
-use Rattle.jam_app.specs.declared.loaded.Loaded.{Loaded}
 use Rattle.jam_app.specs.Progress.{found_at}
 use Rattle.jam_app.proofs.Ends.{no_more}
 use Rattle.jam_app.proofs.Keeping.{Kept, kept_more, kept_none}

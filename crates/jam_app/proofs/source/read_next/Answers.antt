@@ -1,9 +1,6 @@
-use Rattle.std.proofs.Common.{◌≡◌, ◌+◌, ◌≤◌, length, arith, ap, subst, sym, ◌∙◌}
-use Rattle.jam_app.specs.declared.size.Size.{Size}
-use Rattle.jam_app.specs.declared.refusal.Refusal.TheVariants as refusal
-use Rattle.jam_app.specs.Progress.{IsExcess, size_of}
+use Rattle.std.proofs.Common.{◌≡◌, ◌+◌, length, ◌∙◌}
 use Rattle.jam_app.proofs.Causes.{told}
-use Rattle.jam_app.proofs.Sizes.{excess_bytes, excess_stop, size_push}
+use Rattle.jam_app.proofs.Sizes.{excess_stop, size_push}
 use Rattle.jam_app.proofs.source.read_next.Goals as goal
 
 pub returns-then-total-gt-BYTES-clause-gives : goal.returns-then-total-gt-BYTES-clause-gives

@@ -1,11 +1,10 @@
-use Rattle.std.proofs.Common.{◌≡◌, ◌+◌, ◌++◌, ◌∷◌, [], ◌≤◌, ℕ, List, length, map, length-append, arith, ap, subst, sym, ◌∙◌}
-use Rattle.std.proofs.lemmas.List.{append_assoc, append-nil, nil_from_length}
+use Rattle.std.proofs.Common.{◌≡◌, ◌+◌, ◌++◌, ◌∷◌, [], ℕ, List, length, map, length-append, arith, ap, subst, sym, ◌∙◌}
+use Rattle.std.proofs.lemmas.List.{append_assoc}
 use Rattle.std.specs.Option.{IfSome}
-use Rattle.jam_base.specs.Files.{Files}
-use Rattle.jam_app.specs.Progress.{HasExcess, IsExcess, file_at, file_of, size_of}
+use Rattle.jam_app.specs.Progress.{IsExcess, file_at, file_of, size_of}
 use Rattle.jam_app.proofs.Causes.{both_told, handed_on, told}
 use Rattle.jam_app.proofs.Ends.{no_more}
-use Rattle.jam_app.proofs.Sizes.{Taken, excess_in, taken_more}
+use Rattle.jam_app.proofs.Sizes.{excess_in, taken_more}
 use Rattle.jam_app.proofs.source.read_round.Goals as goal
 
 pub loop-path-preserved : goal.loop-path-preserved

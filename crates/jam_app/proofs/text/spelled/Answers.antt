@@ -1,4 +1,4 @@
-use Rattle.std.proofs.Common.{Ok, Err, ap, ◌∙◌}
+use Rattle.std.proofs.Common.{Err, ap, ◌∙◌}
 use Rattle.jam_base.specs.declared.place.Place.{Place}
 use Rattle.jam_app.proofs.Refusing.{bad_text, one_tree, small_stop}
 use Rattle.jam_app.proofs.text.spelled.Goals as goal
