@@ -8,14 +8,12 @@ ghost use Rattle.composer.specs.Application.{native_places, of_each};
 ghost use Rattle.composer.specs.Natives.{native_names};
 
 use crate::application::{Link, ModuleVertex, Value};
+use crate::numbers::MOST;
 use crate::system::{Arrow, CallSite, Callable, System};
 use flow_rules::{Constraints, Flow, Vertex};
 use jam_base::{FunctionRef, List, OutOfMemory, Text};
 use js_scopes::{FunctionInfo, SiteInfo};
 use std::alloc::Global;
-
-// How many items a list has at most: one of more finds no memory.
-const MOST: usize = 4294967295;
 
 /// The functions, sites and flows of all modules together, with the links as flows.
 pub(crate) fn system_of(

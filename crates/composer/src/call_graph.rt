@@ -10,7 +10,7 @@ ghost use Rattle.composer.specs.Solved.{AddsEdges, AreSolved, HasOneNumber, IsEd
 use crate::application::{Link, ModuleVertex, Value};
 use crate::build::{site_of, system_of};
 use crate::edges::{push_links, push_site};
-use crate::numbers::{numbered, numbered_site, vertices_of};
+use crate::numbers::{MOST, numbered, numbered_site, vertices_of};
 use crate::sets::Sets;
 use crate::sweep::solve;
 use crate::system::System;
@@ -103,7 +103,7 @@ fn push_sites(
     requires members { All (IsSiteIn (Contains vertices.now)) (application.of_each modules.now (λ m c. map (application.site_of m) c.sites)) }
     ensures { OnOk result (AddsEdges (IsEdgeBelow system.now modules.now (length modules.now)) out.old.items out.new.items) }
 {
-    if modules.len() > 4294967295 {
+    if modules.len() > MOST {
         return Err(OutOfMemory);
     }
     for m in 0..modules.len() {

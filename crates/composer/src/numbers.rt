@@ -13,8 +13,8 @@ use crate::system::{Arrow, CallSite, Callable, System};
 use jam_base::{List, OutOfMemory};
 use std::alloc::Global;
 
-// How many items a list has at most: one of more finds no memory.
-const MOST: usize = 4294967295;
+/// How many items a list has at most: one of more finds no memory.
+pub(crate) const MOST: usize = 4294967295;
 
 /// The vertices of a system in order, each once: the number of a vertex is its place.
 pub(crate) fn vertices_of(
