@@ -24,33 +24,55 @@ fn files(alloc: Global, files: &[(&str, &str)]) -> Result<Bench, Fail> {
 #[test]
 fn modules_are_loaded_from_round_to_round(rt: HostRuntime) -> Result<(), Fail> {
     let alloc = rt.alloc();
-    for (b, number, err) in [
+    for (b, number, out, err) in [
         // A cycle, a module that is required twice, targets that aren't there, and one above the folder.
-        ("require(\"./index\"); require(\"./c\");", 0, ""),
+        (
+            "require(\"./index\"); require(\"./c\");",
+            0,
+            "b.js:1:8 -> index.js:1:1 <module>\nb.js:1:28 -> c.js:1:1 <module>\n\
+             index.js:1:8 -> b.js:1:1 <module>\n",
+            "",
+        ),
         (
             "require(\"./c\"); require(\"./c.js\"); require(\"./b\");",
             0,
+            "b.js:1:8 -> c.js:1:1 <module>\nb.js:1:24 -> c.js:1:1 <module>\n\
+             b.js:1:43 -> b.js:1:1 <module>\nindex.js:1:8 -> b.js:1:1 <module>\n",
             "",
         ),
-        ("require(\"./d\"); require(\"../c\");", 0, ""),
+        (
+            "require(\"./d\"); require(\"../c\");",
+            0,
+            "index.js:1:8 -> b.js:1:1 <module>\n",
+            "",
+        ),
         // The target of a require in a folder, and a file that is no code.
-        ("require(\"./a/e\"); require(\"./f.json\");", 0, ""),
+        (
+            "require(\"./a/e\"); require(\"./f.json\");",
+            0,
+            "a/e.js:1:8 -> c.js:1:1 <module>\nb.js:1:8 -> a/e.js:1:1 <module>\n\
+             index.js:1:8 -> b.js:1:1 <module>\n",
+            "",
+        ),
         // A module two rounds on has no tree.
         (
             "require(\"./bad\");",
             2,
+            "",
             "jam: bad.js:2:3: not in the profile\n",
         ),
         // Of two in one round the first by its path is named.
         (
             "require(\"./bad\"); require(\"./a/bad\");",
             2,
+            "",
             "jam: a/bad.js:1:1: not in the profile\n",
         ),
         // A round comes before the modules that it requires.
         (
             "require(\"./a/bad\"); f(",
             2,
+            "",
             "jam: b.js:1:23: not in the profile\n",
         ),
     ] {
@@ -74,7 +96,7 @@ fn modules_are_loaded_from_round_to_round(rt: HostRuntime) -> Result<(), Fail> {
             words.as_slice(),
             Blank::new(1),
         );
-        compare(&rt, &bench, &status, number, "", err);
+        compare(&rt, &bench, &status, number, out, err);
     }
     Ok(())
 }
@@ -82,18 +104,26 @@ fn modules_are_loaded_from_round_to_round(rt: HostRuntime) -> Result<(), Fail> {
 #[test]
 fn a_module_may_have_8388608_bytes(rt: HostRuntime) -> Result<(), Fail> {
     let alloc = rt.alloc();
-    for (byte, length, number, err) in [
-        (b' ', 8_388_608, 0, ""),
+    for (byte, length, number, out, err) in [
+        (
+            b' ',
+            8_388_608,
+            0,
+            "index.js:1:8 -> b.js:1:1 <module>\n",
+            "",
+        ),
         (
             b' ',
             8_388_609,
             2,
+            "",
             "jam: b.js: 8388609 bytes, more than 8388608\n",
         ),
         (
             255,
             8_388_609,
             2,
+            "",
             "jam: b.js: 8388609 bytes, more than 8388608\n",
         ),
     ] {
@@ -108,7 +138,7 @@ fn a_module_may_have_8388608_bytes(rt: HostRuntime) -> Result<(), Fail> {
             words.as_slice(),
             Blank::new(1),
         );
-        compare(&rt, &bench, &status, number, "", err);
+        compare(&rt, &bench, &status, number, out, err);
     }
     Ok(())
 }
@@ -127,6 +157,36 @@ fn many(alloc: Global, count: u32) -> Result<Bench, Fail> {
     Ok(bench)
 }
 
+// The call graph of such an application.
+fn edges_of_many(alloc: Global, count: u32) -> Result<String, Fail> {
+    let mut lines = String::new(alloc);
+    for i in 1..=count {
+        let line = format!(in alloc; "index.js:{i}:8 -> m{i}.js:1:1 <module>\n")?;
+        lines.push_str(line.as_str())?;
+    }
+    Ok(lines)
+}
+
+#[test]
+fn an_application_may_have_16384_modules(rt: HostRuntime) -> Result<(), Fail> {
+    let alloc = rt.alloc();
+    let refused = "jam: too many: 16385 modules, 332958 bytes\n";
+    for (count, number, edges, err) in [(16_383, 0, 16_383, ""), (16_384, 2, 0, refused)] {
+        let mut bench = many(alloc, count)?;
+        let words = words_of(alloc, "graph index.js")?;
+        let status = ran::<HostRuntime, Brand>(
+            &rt,
+            alloc,
+            &mut bench,
+            words.as_slice(),
+            Blank::new(1),
+        );
+        let out = edges_of_many(alloc, edges)?;
+        compare(&rt, &bench, &status, number, out.as_str(), err);
+    }
+    Ok(())
+}
+
 // An entry and so many modules, each of which requires the next one.
 fn chain(alloc: Global, count: u32) -> Result<Bench, Fail> {
     let mut bench = empty_bench(alloc);
@@ -141,20 +201,11 @@ fn chain(alloc: Global, count: u32) -> Result<Bench, Fail> {
 }
 
 #[test]
-fn an_application_may_have_16384_modules(rt: HostRuntime) -> Result<(), Fail> {
+fn rounds_may_follow_one_another_16384_times(rt: HostRuntime) -> Result<(), Fail> {
     let alloc = rt.alloc();
     let refused = "jam: too many: 16385 modules, 332958 bytes\n";
-    for (is_chain, count, number, err) in [
-        (false, 16_383, 0, ""),
-        (false, 16_384, 2, refused),
-        (true, 16_383, 0, ""),
-        (true, 16_384, 2, refused),
-    ] {
-        let mut bench = if is_chain {
-            chain(alloc, count)?
-        } else {
-            many(alloc, count)?
-        };
+    for (count, number, edges, err) in [(16_383, 0, 16_383, ""), (16_384, 2, 0, refused)] {
+        let mut bench = chain(alloc, count)?;
         let words = words_of(alloc, "graph index.js")?;
         let status = ran::<HostRuntime, Brand>(
             &rt,
@@ -163,7 +214,68 @@ fn an_application_may_have_16384_modules(rt: HostRuntime) -> Result<(), Fail> {
             words.as_slice(),
             Blank::new(1),
         );
-        compare(&rt, &bench, &status, number, "", err);
+        let lines = bench.out.bytes().iter().filter(|b| **b == b'\n').count();
+        assert_eq!(&rt; status.number(), number);
+        assert_eq!(&rt; lines, edges);
+        assert_eq!(&rt; bench.err.bytes(), err.as_bytes());
+    }
+    Ok(())
+}
+
+// A module whose function another one calls.
+fn crossing(alloc: Global, failing: u64, room: u64) -> Result<Bench, Fail> {
+    let mut bench = files(
+        alloc,
+        &[
+            ("index.js", "var a = require(\"./a\");\na.go();\n"),
+            ("a.js", "exports.go = function () { };\n"),
+        ],
+    )?;
+    bench.folder.fail_at(List::of(vec![in alloc; failing]?));
+    bench.out.fail_after(room);
+    Ok(bench)
+}
+
+const CROSSING: &str =
+    "index.js:1:16 -> a.js:1:1 <module>\nindex.js:2:5 -> a.js:1:14 go\n";
+
+#[test]
+fn a_call_has_an_edge_to_another_file(rt: HostRuntime) -> Result<(), Fail> {
+    let alloc = rt.alloc();
+    for failing in 0..7 {
+        let (number, out, err) = match failing {
+            0 | 6 => (0, CROSSING, ""),
+            _ => (3, "", "jam: read failed\n"),
+        };
+        let mut bench = crossing(alloc, failing, 99)?;
+        let words = words_of(alloc, "graph index.js")?;
+        let status = ran::<HostRuntime, Brand>(
+            &rt,
+            alloc,
+            &mut bench,
+            words.as_slice(),
+            Blank::new(1),
+        );
+        compare(&rt, &bench, &status, number, out, err);
+    }
+    Ok(())
+}
+
+#[test]
+fn a_full_output_has_a_front_of_the_text(rt: HostRuntime) -> Result<(), Fail> {
+    let alloc = rt.alloc();
+    for room in 0..CROSSING.len() {
+        let mut bench = crossing(alloc, 0, room as u64)?;
+        let words = words_of(alloc, "graph index.js")?;
+        let status = ran::<HostRuntime, Brand>(
+            &rt,
+            alloc,
+            &mut bench,
+            words.as_slice(),
+            Blank::new(1),
+        );
+        let out = CROSSING.get(..room).ok_or("front")?;
+        compare(&rt, &bench, &status, 4, out, "jam: write failed\n");
     }
     Ok(())
 }
@@ -171,16 +283,18 @@ fn an_application_may_have_16384_modules(rt: HostRuntime) -> Result<(), Fail> {
 #[test]
 fn a_fault_of_the_folder_ends_the_loading(rt: HostRuntime) -> Result<(), Fail> {
     let alloc = rt.alloc();
-    for (failing, number, err) in [
-        (1, 3, "jam: read failed\n"),
-        (2, 3, "jam: read failed\n"),
-        (3, 3, "jam: read failed\n"),
-        (4, 3, "jam: read failed\n"),
-        (5, 3, "jam: read failed\n"),
-        (6, 3, "jam: read failed\n"),
-        (7, 3, "jam: read failed\n"),
-        (8, 3, "jam: read failed\n"),
-        (9, 0, ""),
+    let edges = "a.js:1:8 -> b.js:1:1 <module>\nb.js:1:8 -> index.js:1:1 <module>\n\
+                 index.js:1:8 -> b.js:1:1 <module>\nindex.js:1:27 -> a.js:1:1 <module>\n";
+    for (failing, number, out, err) in [
+        (1, 3, "", "jam: read failed\n"),
+        (2, 3, "", "jam: read failed\n"),
+        (3, 3, "", "jam: read failed\n"),
+        (4, 3, "", "jam: read failed\n"),
+        (5, 3, "", "jam: read failed\n"),
+        (6, 3, "", "jam: read failed\n"),
+        (7, 3, "", "jam: read failed\n"),
+        (8, 3, "", "jam: read failed\n"),
+        (9, 0, edges, ""),
     ] {
         let mut bench = files(
             alloc,
@@ -199,7 +313,7 @@ fn a_fault_of_the_folder_ends_the_loading(rt: HostRuntime) -> Result<(), Fail> {
             words.as_slice(),
             Blank::new(1),
         );
-        compare(&rt, &bench, &status, number, "", err);
+        compare(&rt, &bench, &status, number, out, err);
     }
     Ok(())
 }
