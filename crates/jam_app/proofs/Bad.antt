@@ -1,10 +1,9 @@
 -- Modules without a tree.
-use Rattle.std.proofs.Common.{◌≡◌, ℕ, ◌∷◌, ◌++◌, List, map, ap, sym, subst, ◌∙◌, Option, Some, None}
+use Rattle.std.proofs.Common.{◌≡◌, ℕ, ◌∷◌, ◌++◌, List, map, sym, subst, Option, Some, None}
 use Rattle.std.specs.Prelude.{All, Contains}
 use Rattle.std.proofs.lemmas.List.Elements.{All-contains, All-map, All-weaker, Contains-append_right}
 use Rattle.jam_base.specs.Files.{Files}
 use Rattle.jam_app.specs.declared.module.Parsed.{Parsed}
-use Rattle.jam_app.specs.declared.refusal.Refusal.{Refusal}
 use Rattle.jam_app.specs.declared.refusal.Refusal.TheVariants as refusal
 use Rattle.jam_app.specs.declared.source.Source.{Source}
 use Rattle.jam_app.specs.declared.stop.Stop.{Stop}

@@ -1,5 +1,5 @@
 -- Stops and their causes, over a folder that may tell its files.
-use Rattle.std.proofs.Common.{◌≡◌, ℕ, ◌+◌, ◌≤◌, List, ap, sym, subst, ◌∙◌, arith, Option, Some, None, Result, Ok, Err}
+use Rattle.std.proofs.Common.{◌≡◌, ℕ, ◌≤◌, List, ap, sym, subst, ◌∙◌, arith, Option, Some, None, Result, Ok, Err}
 use Rattle.std.specs.Result.{IfErr, IsErrAnd}
 use Rattle.std.specs.Option.{IfSome}
 use Rattle.jam_base.specs.Causes.{Rose}
@@ -10,7 +10,7 @@ use Rattle.jam_app.specs.declared.refusal.Refusal.{Refusal}
 use Rattle.jam_app.specs.declared.refusal.Refusal.TheVariants as refusal
 use Rattle.jam_app.specs.declared.stop.Stop.{Stop}
 use Rattle.jam_app.specs.declared.stop.Stop.TheVariants.{ReadFault, OutOfMemory, Refused}
-use Rattle.jam_app.specs.Entries.{entry_path, module_path}
+use Rattle.jam_app.specs.Entries.{module_path}
 use Rattle.jam_app.specs.Refusals.{IsRefusal, no_entry}
 use Rattle.jam_app.specs.declared.status.Status.{Status}
 use Rattle.jam_app.specs.Outcomes.{RefusesAlways}

@@ -1,5 +1,5 @@
 -- Links between loaded modules.
-use Rattle.std.proofs.Common.{◌≡◌, ◌↔◌, ℕ, zero, suc, ◌+◌, ◌<◌, ◌≤◌, ◌⊎◌, inl, inr, ⊎_elim, Bool, false, List, [], ◌∷◌, ◌++◌, map, length, take, get_or, Option, Some, None, Result, Ok, Err, refl, sym, ap, subst, ◌∙◌, arith}
+use Rattle.std.proofs.Common.{◌≡◌, ◌↔◌, ℕ, zero, suc, ◌+◌, ◌<◌, ◌≤◌, ◌⊎◌, inl, inr, false, List, [], ◌∷◌, ◌++◌, map, length, take, get_or, Option, Some, None, refl, sym, ap, subst, ◌∙◌, arith}
 use Rattle.std.specs.Prelude.{Contains, slice_get}
 use Rattle.std.specs.List.{HoldsAt}
 use Rattle.std.specs.List.Sorted.{IsSortedBy, IsPartitionPoint, IsNonDecreasingBy}
@@ -11,7 +11,7 @@ use Rattle.std.specs.declared.cmp.Ordering.TheVariants.{Less, Equal, Greater}
 use Rattle.std.proofs.lemmas.Cmp.{tied_itself}
 use Rattle.std.proofs.lemmas.Option.{slice_get-map, slice_get_within, slice_get_cases, get_or_from_slice_get, same_Some, none-some}
 use Rattle.std.proofs.lemmas.List.{take_more, length-map, get_or-map}
-use Rattle.std.proofs.lemmas.List.Elements.{Contains-get_or, Contains-append_cases, Contains-append_left, Contains-append_right}
+use Rattle.std.proofs.lemmas.List.Elements.{Contains-append_cases, Contains-append_left, Contains-append_right}
 use Rattle.std.proofs.lemmas.List.Sorted.{searchable_from_sorted}
 use Rattle.std.proofs.lemmas.Map.Keys.{Less-from_sorted}
 use Rattle.std.proofs.lemmas.Map.Lookups.{exact_bytes}
@@ -58,11 +58,11 @@ pub found_place : (loaded : List Loaded) (path : List ℕ) (i : ℕ) → Ascend 
     → (place : ℕ) → (Some i ≡ Some place) ↔ StandsAt loaded place path
 found_place loaded path i sorted within holds place = elim (slice_get_cases loaded i).1 [
   | inl (x, lt, e, g) ↦ (
-    let here : StandsAt loaded i path = record { one = x; here = e; path_is = exact_bytes x.path path (subst (λ (y : Loaded). order y.path path ≡ Equal) g (holds x)) } in (
-      λ eq. subst (λ p. StandsAt loaded p path) (same_Some i place eq) here,
-      λ (s : StandsAt loaded place path). ap Some (one_place loaded i place x s.one sorted e s.here (here.path_is ∙ sym s.path_is)),
-    )
-  )
+      let here : StandsAt loaded i path = record { one = x; here = e; path_is = exact_bytes x.path path (subst (λ (y : Loaded). order y.path path ≡ Equal) g (holds x)) } in (
+        λ eq. subst (λ p. StandsAt loaded p path) (same_Some i place eq) here,
+        λ (s : StandsAt loaded place path). ap Some (one_place loaded i place x s.one sorted e s.here (here.path_is ∙ sym s.path_is)),
+      )
+      )
   | inr (past, e) ↦ absurd (omega (arith, past, within))
 ]
 
@@ -72,14 +72,14 @@ pub no_place : (loaded : List Loaded) (path : List ℕ) (i : ℕ) → Ascend (pa
 no_place loaded path i sorted point place = (
   λ e. absurd (none-some place e),
   λ (s : StandsAt loaded place path). absurd (
-    let at : get_or loaded place s.one ≡ s.one = get_or_from_slice_get loaded place s.one s.one s.here in
-    let within : place < length loaded = slice_get_within loaded place s.one s.here in
-    let equal : order s.one.path path ≡ Equal = ap (λ p. order p path) s.path_is ∙ tied_itself nat_list_cmp_total path in
-    elim (less_or_not place i) [
-      | inl lt ↦ no_less (sym (subst (λ (y : Loaded). order y.path path ≡ Less) at (point.0 place s.one (omega arith) lt)) ∙ equal)
-      | inr le ↦ no_greater (sym (subst (λ (y : Loaded). order y.path path ≡ Greater) at (point.1 place s.one le within)) ∙ equal)
-    ]
-  ),
+      let at : get_or loaded place s.one ≡ s.one = get_or_from_slice_get loaded place s.one s.one s.here in
+      let within : place < length loaded = slice_get_within loaded place s.one s.here in
+      let equal : order s.one.path path ≡ Equal = ap (λ p. order p path) s.path_is ∙ tied_itself nat_list_cmp_total path in
+      elim (less_or_not place i) [
+        | inl lt ↦ no_less (sym (subst (λ (y : Loaded). order y.path path ≡ Less) at (point.0 place s.one (omega arith) lt)) ∙ equal)
+        | inr le ↦ no_greater (sym (subst (λ (y : Loaded). order y.path path ≡ Greater) at (point.1 place s.one le within)) ∙ equal)
+      ]
+      ),
 )
   where
     less_or_not : (k i : ℕ) → (k < i) ⊎ (i ≤ k)
@@ -150,6 +150,7 @@ among_more loaded m targets i led xs ys zs lt at a b =
     only : (y x : Led) → Contains (y ∷ []) x → y ≡ x
     only y x (zero, lt, e) = e
     only y x (suc k, lt, e) = absurd (omega (arith, lt))
+
     split : (x : Link) → LinksAmong loaded m (take i targets ++ led ∷ []) x → LinksAmong loaded m (take i targets) x ⊎ LinksOf loaded m led x
     split x l = elim (Contains-append_cases (take i targets) (led ∷ []) l.led l.here) [
       | inl g ↦ inl (record { led = l.led; here = g; links = l.links })
@@ -173,8 +174,10 @@ below_more loaded m one xs ys zs at a b =
     last : (x : Link) (l : LinksBelow loaded (m + 1) x) → x.module ≡ m → LinksAmong loaded m one.targets.items x
     last x l e = subst (λ k. LinksAmong loaded k one.targets.items x) e
         (subst (λ (f : Loaded). LinksAmong loaded x.module f.targets.items x) (same_Some l.from one (sym l.here ∙ ap (slice_get loaded) e ∙ at)) l.links)
+
     less_or_last : (k : ℕ) → k < m + 1 → (k < m) ⊎ (k ≡ m)
     less_or_last k lt = grind (arith, lt)
+
     split : (x : Link) → LinksBelow loaded (m + 1) x → LinksBelow loaded m x ⊎ LinksAmong loaded m one.targets.items x
     split x l = elim (less_or_last x.module l.below) [
       | inl lt ↦ inl (record { below = lt; from = l.from; here = l.here; links = l.links })

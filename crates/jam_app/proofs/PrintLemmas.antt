@@ -1,5 +1,5 @@
 -- What is printed of modules.
-use Rattle.std.proofs.Common.{◌≡◌, ℕ, zero, suc, ◌+◌, ◌<◌, List, [], ◌∷◌, ◌++◌, map, length, take, get_or, refl, sym, ap, ◌∙◌, arith, append_assoc}
+use Rattle.std.proofs.Common.{◌≡◌, ℕ, ◌+◌, ◌<◌, List, [], ◌∷◌, ◌++◌, map, length, take, get_or, refl, sym, ap, ◌∙◌, arith, append_assoc}
 use Rattle.std.specs.Prelude.{slice_get, Some, None}
 use Rattle.jam_base.specs.declared.edge.Edge.{Edge}
 use Rattle.jam_app.specs.Parts.{PrintedModule, call_in, edge_among, function_among}

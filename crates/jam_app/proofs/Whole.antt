@@ -1,7 +1,7 @@
 -- The beginning of loading, and its end.
-use Rattle.std.proofs.Common.{◌≡◌, ℕ, zero, ◌+◌, ◌<◌, ◌≤◌, List, [], ◌∷◌, ◌++◌, length, map, refl, ap, sym, subst, ◌∙◌, arith, inl, inr, ⊎_elim, length-append, true≢false, Bool, Option, Some, None}
+use Rattle.std.proofs.Common.{◌≡◌, ℕ, ◌+◌, ◌<◌, ◌≤◌, List, [], ◌∷◌, ◌++◌, length, map, refl, ap, sym, subst, ◌∙◌, arith, ⊎_elim, length-append, true≢false, Bool, Option, Some}
 use Rattle.std.specs.Option.{is_some}
-use Rattle.std.specs.Prelude.{◌↔◌, All, Contains, IsSome}
+use Rattle.std.specs.Prelude.{All, Contains}
 use Rattle.std.specs.BTreeMap as tree
 use Rattle.std.specs.BTreeMap.{BTreeMap, IsOrdered}
 use Rattle.std.specs.Cmp.Lexicographic.{slice_cmp, nat_list_cmp_total}
@@ -18,14 +18,13 @@ use Rattle.composer.proofs.Members.{here, none}
 use Rattle.jam_app.specs.declared.loaded.Loaded.{Loaded}
 use Rattle.jam_app.specs.declared.refusal.Refusal.{Refusal}
 use Rattle.jam_app.specs.declared.rounds.Progress.{Progress}
-use Rattle.jam_app.specs.declared.size.Size.{Size}
 use Rattle.jam_app.specs.Entries.{entry_path}
 use Rattle.jam_app.specs.Loading.{IsKept, IsWhole, module_of}
 use Rattle.jam_app.specs.Parts.{IsAnalysed}
-use Rattle.jam_app.specs.Progress.{HoldsAnalysed, IsHeld, Stands, found_at, size_of}
+use Rattle.jam_app.specs.Progress.{HoldsAnalysed, Stands, found_at}
 use Rattle.jam_app.specs.Refusals.{IsFirstBad, IsOneTooMany, IsReached, IsRefusal, no_entry, not_in_profile, too_large, too_many}
-use Rattle.jam_app.specs.Rounds.{Ascend, Fits, IsApplication, IsLoaded, IsModuleOf, IsRound, IsTreeOf, LoadedModule, NoneBad, bytes_at, spelled, total_bytes}
-use Rattle.jam_app.specs.Texts.{IsBad, IsSpelled}
+use Rattle.jam_app.specs.Rounds.{Ascend, Fits, IsModuleOf, IsRound, LoadedModule, bytes_at, spelled, total_bytes}
+use Rattle.jam_app.specs.Texts.{IsBad}
 use Rattle.jam_app.proofs.Keeping.{path_of}
 use Rattle.jam_app.proofs.RoundLemmas.{before_loaded, empty_after, loaded_before, round_within}
 use Rattle.jam_app.proofs.Sizes.{total_append}
@@ -92,24 +91,24 @@ module _ (m : Files) (operand : List ℕ) (progress : Progress) (stands : Stands
       ⊎_elim
       (λ (within : reached.number < stands.number). round_within m stands.entry reached.number stands.number before (front ++ path ∷ behind) stands.before [] is_round stands.is_round within)
       (λ (after : stands.number ≤ reached.number). absurd (none path (subst (λ (ps : List (List ℕ)). Contains ps path)
-          (empty_after m stands.entry stands.number reached.number stands.before before (front ++ path ∷ behind) stands.is_round is_round after)
-          (Contains-append_right front (path ∷ behind) path (here path behind)))))
+      (empty_after m stands.entry stands.number reached.number stands.before before (front ++ path ∷ behind) stands.is_round is_round after)
+      (Contains-append_right front (path ∷ behind) path (here path behind)))))
       (cases_lt reached.number stands.number)
 
   no_first_bad : (path : List ℕ) → IsFirstBad operand m path → ⊥
   no_first_bad path first =
       let all = reached_within first.before first.front path first.behind first.reached in
       let inside : Contains stands.before path = subst (λ (ps : List (List ℕ)). Contains ps path) (sym all.1)
-          (Contains-append_left (first.before ++ (first.front ++ path ∷ first.behind)) all.0 path (Contains-append_right first.before (first.front ++ path ∷ first.behind) path (Contains-append_right first.front (path ∷ first.behind) path (here path first.behind)))) in
+      (Contains-append_left (first.before ++ (first.front ++ path ∷ first.behind)) all.0 path (Contains-append_right first.before (first.front ++ path ∷ first.behind) path (Contains-append_right first.front (path ∷ first.behind) path (here path first.behind)))) in
       All-contains (λ (p : List ℕ). IsBad (bytes_at m p) → ⊥) stands.before path stands.none_bad inside first.bad
 
   no_excess : (earlier : List (List ℕ)) (path : List ℕ) → Fits m stands.before → IsOneTooMany operand m earlier path → ⊥
   no_excess earlier path fits one =
       let all = reached_within one.before one.front path one.behind one.reached in
       let parts : stands.before ≡ (earlier ++ path ∷ []) ++ (one.behind ++ all.0) =
-          all.1
-          ∙ ap (λ xs. xs ++ all.0) (sym (append_assoc one.before one.front (path ∷ one.behind)) ∙ ap (λ xs. xs ++ path ∷ one.behind) (sym one.earlier_are) ∙ sym (append_assoc earlier (path ∷ []) one.behind))
-          ∙ append_assoc (earlier ++ path ∷ []) one.behind all.0 in
+      all.1
+      ∙ ap (λ xs. xs ++ all.0) (sym (append_assoc one.before one.front (path ∷ one.behind)) ∙ ap (λ xs. xs ++ path ∷ one.behind) (sym one.earlier_are) ∙ sym (append_assoc earlier (path ∷ []) one.behind))
+      ∙ append_assoc (earlier ++ path ∷ []) one.behind all.0 in
       one.over (prefix_fits m stands.before (earlier ++ path ∷ []) (one.behind ++ all.0) parts fits)
 
   none_owed : Fits m stands.before → (owed : Refusal) → IsRefusal operand m owed → ⊥

@@ -1,8 +1,8 @@
 -- The graph that loaded modules give is the one that is owed.
-use Rattle.std.proofs.Common.{◌≡◌, ◌↔◌, ℕ, zero, suc, ◌<◌, inl, inr, List, [], ◌∷◌, ◌++◌, map, length, get_or, Option, Some, None, refl, sym, ap, subst, ◌∙◌, arith}
+use Rattle.std.proofs.Common.{◌≡◌, ℕ, suc, inl, inr, List, [], ◌∷◌, map, length, Option, Some, None, refl, sym, ap, subst, ◌∙◌, arith}
 use Rattle.std.specs.Prelude.{All, Contains, slice_get, unwrap_or}
 use Rattle.std.specs.Option.{option_map}
-use Rattle.std.proofs.lemmas.Option.{slice_get-map, slice_get_within, slice_get_cases, get_or_from_slice_get, same_Some, none-some}
+use Rattle.std.proofs.lemmas.Option.{slice_get-map, slice_get_within, get_or_from_slice_get, same_Some, none-some}
 use Rattle.jam_base.specs.Files.{Files}
 use Rattle.jam_base.specs.declared.edge.Edge.{Edge}
 use Rattle.jam_base.specs.declared.edge.FunctionRef.{FunctionRef}
@@ -21,9 +21,8 @@ use Rattle.jam_app.specs.declared.loaded.Led.{Led}
 use Rattle.jam_app.specs.declared.loaded.Loaded.{Loaded}
 use Rattle.jam_app.specs.Graphs.{IsGraphText, nowhere, shown_call, shown_edge, shown_function, shown_in, shown_number}
 use Rattle.jam_app.specs.Loading.{IsKept, IsWhole, Leads, module_of}
-use Rattle.jam_app.specs.Parts.{Adds, LinksAmong, LinksBelow, PrintedModule, call_in, edge_among, function_among, printed_of}
+use Rattle.jam_app.specs.Parts.{Adds, LinksBelow, PrintedModule, call_in, edge_among, function_among, printed_of}
 use Rattle.jam_app.specs.Rounds.{AreLinks, IsLink, LoadedModule}
-use Rattle.jam_app.proofs.PrintLemmas.{map_map}
 
 -- the function with a number, in a list of printed ones and as it is printed
 number_shown : (m : LoadedModule) (o : Option FunctionInfo) → unwrap_or (option_map (shown_in m) o) nowhere ≡ elim o [ None ↦ nowhere | Some info ↦ shown_in m info ]

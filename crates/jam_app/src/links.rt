@@ -42,12 +42,7 @@ fn push_links(
 }
 
 // Adds the link of module m to a target, where that is loaded.
-fn push_link(
-    loaded: &[Loaded],
-    m: u32,
-    led: &Led,
-    links: &mut Vec<Link>,
-) -> Result<(), OutOfMemory>
+fn push_link(loaded: &[Loaded], m: u32, led: &Led, links: &mut Vec<Link>) -> Result<(), OutOfMemory>
     requires sorted { Ascend (map (λ l. l.path) loaded.now) }
     requires few { length loaded.now ≤ 4294967295 }
     ensures { OnOk result (Adds (LinksOf loaded.now m led.now) links.old.items links.new.items) }

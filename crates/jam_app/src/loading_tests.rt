@@ -236,8 +236,7 @@ fn crossing(alloc: Global, failing: u64, room: u64) -> Result<Bench, Fail> {
     Ok(bench)
 }
 
-const CROSSING: &str =
-    "index.js:1:16 -> a.js:1:1 <module>\nindex.js:2:5 -> a.js:1:14 go\n";
+const CROSSING: &str = "index.js:1:16 -> a.js:1:1 <module>\nindex.js:2:5 -> a.js:1:14 go\n";
 
 #[test]
 fn a_call_has_an_edge_to_another_file(rt: HostRuntime) -> Result<(), Fail> {

@@ -132,10 +132,7 @@ fn load_round<F: Folder, L: Ledger>(
 }
 
 // The modules in order of their paths.
-fn by_path(
-    alloc: Global,
-    modules: BTreeMap<ModulePath, Loaded>,
-) -> Result<Vec<Loaded>, OutOfMemory>
+fn by_path(alloc: Global, modules: BTreeMap<ModulePath, Loaded>) -> Result<Vec<Loaded>, OutOfMemory>
     ensures listed { IfOk result (λ listed. listed.items ≡ tree.values modules) }
     ensures ordered { OnOk result (tree.IsOrdered (slice_cmp nat_cmp) modules) }
 {

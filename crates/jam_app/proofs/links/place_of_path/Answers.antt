@@ -1,5 +1,5 @@
-use Rattle.std.proofs.Common.{rules, of_calls, ◌≡◌, List, ℕ}
-use Rattle.std.specs.Cmp.Lexicographic.{slice_cmp, nat_list_cmp_total}
+use Rattle.std.proofs.Common.{rules, of_calls}
+use Rattle.std.specs.Cmp.Lexicographic.{slice_cmp}
 use Rattle.std.specs.Ordering.{nat_cmp}
 use Rattle.std.proofs.lemmas.Fn.{always_returns_same}
 use Rattle.jam_app.specs.declared.loaded.Loaded.{Loaded}

@@ -1,4 +1,4 @@
-use Rattle.std.proofs.Common.{◌≡◌, refl, sym, subst}
+use Rattle.std.proofs.Common.{refl, sym, subst}
 use Rattle.jam_app.specs.Parts.{Adds, LinksOf}
 use Rattle.jam_app.proofs.LinkLemmas.{one_link, no_link}
 use Rattle.jam_app.proofs.links.push_link.Goals as goal

@@ -54,8 +54,8 @@ pub returns-clause-gives : goal.returns-clause-gives
 returns-clause-gives g c =
     let none : c.loop-alloc.round.items ≡ [] = is_nothing c.loop-alloc.round.items _ c.is_empty.result c.loop-alloc.round.ok.0 c.is_empty.ensures c.loop-alloc-test.false in
     told (g.F.Folder.files c.args.folder.now) c.loop-alloc.invariant.stands (λ m stands.
-        is_whole m c.args.operand.now c.loop-alloc.progress (subst (Stands c.args.operand.now m c.loop-alloc.progress) none stands) c.in_ok-by_path.field-0.items c.loop-alloc.invariant.modules c.loop-alloc.invariant.bytes
-        c.in_ok-by_path.ensures.ordered c.in_ok-by_path.ensures.listed)
+    is_whole m c.args.operand.now c.loop-alloc.progress (subst (Stands c.args.operand.now m c.loop-alloc.progress) none stands) c.in_ok-by_path.field-0.items c.loop-alloc.invariant.modules c.loop-alloc.invariant.bytes
+    c.in_ok-by_path.ensures.ordered c.in_ok-by_path.ensures.listed)
 
 pub returns-clause-sorted : goal.returns-clause-sorted
 returns-clause-sorted g c = listed_ascend c.loop-alloc.progress.modules c.in_ok-by_path.field-0.items c.loop-alloc.invariant.held c.in_ok-by_path.ensures.ordered c.in_ok-by_path.ensures.listed

@@ -1,12 +1,10 @@
-use Rattle.std.proofs.Common.{◌≡◌, ℕ, ◌++◌, ◌≤◌, inl, inr, List, map, arith, ap, sym, subst, ◌∙◌}
+use Rattle.std.proofs.Common.{◌≡◌, ℕ, inl, inr, List, map, arith, ap, subst, ◌∙◌}
 use Rattle.std.specs.Prelude.{All}
 use Rattle.std.specs.List.{flat_map}
 use Rattle.std.specs.Option.{IfSome}
 use Rattle.std.proofs.lemmas.List.Elements.{All-contains}
-use Rattle.jam_base.specs.Files.{Files}
-use Rattle.jam_app.specs.declared.loaded.Loaded.{Loaded}
 use Rattle.jam_app.specs.Parts.{IsAnalysed}
-use Rattle.jam_app.specs.Progress.{HasBad, HasExcess, IsRead, file_at, file_of, led_from, size_of, source_of}
+use Rattle.jam_app.specs.Progress.{HasBad, HasExcess, IsRead, led_from, size_of, source_of}
 use Rattle.jam_app.proofs.Causes.{any_files, both_told, handed_on, told}
 use Rattle.jam_app.proofs.Steps.{refuses_bad, refuses_excess, stands_next}
 use Rattle.jam_app.proofs.rounds.load_round.Goals as goal
@@ -25,7 +23,7 @@ returns-in_err-modules-clause-gives g c =
     handed_on _ (λ m owed. HasBad c.in_ok-sources.sources.items owed) _ files _ (g.F.Folder.faults c.args.folder.now) _ _ c.in_err-modules.field-0.0 c.from_residual-in_err-modules.result
     c.from_residual-in_err-modules.ensures.1 c.in_ok-sources.ensures.same c.in_ok-sources.ensures.later
     (told files c.in_ok-sources.ensures.gives (λ m read owed has operand stands.
-        refuses_bad m operand c.args.progress.now c.read_round.new.size c.in_ok-sources.sources.items c.args.round.items owed stands read.0 read.1 c.in_ok-sources.ensures.modules c.in_ok-sources.ensures.bytes has))
+    refuses_bad m operand c.args.progress.now c.read_round.new.size c.in_ok-sources.sources.items c.args.round.items owed stands read.0 read.1 c.in_ok-sources.ensures.modules c.in_ok-sources.ensures.bytes has))
     c.in_err-modules.ensures.gives
 
 pub returns-clause-gives : goal.returns-clause-gives
@@ -34,8 +32,8 @@ returns-clause-gives g c =
     let made : IfSome files (λ m. (map source_of c.in_ok-modules.modules.items ≡ c.in_ok-sources.sources.items) × All (IsRead m) c.in_ok-modules.modules.items)
     = subst (λ fs. IfSome fs (λ m. (map source_of c.in_ok-modules.modules.items ≡ c.in_ok-sources.sources.items) × All (IsRead m) c.in_ok-modules.modules.items)) c.in_ok-sources.ensures.same c.in_ok-modules.ensures.gives in
     both_told files c.in_ok-sources.ensures.gives made (λ m read made operand stands.
-        stands_next m operand c.args.progress.now _ c.in_ok-sources.sources.items c.in_ok-modules.modules.items c.args.round.items c.in_ok-paths.paths.items c.in_ok-not_loaded.field-0.items stands read.0 made.0 made.1 read.1
-        (record { here = c.in_ok-keep.ensures.here; which = c.in_ok-keep.ensures.which }) (c.in_ok-paths.ensures ∙ ap (flat_map led_from) c.as_slice.ensures.value) c.in_ok-not_loaded.ensures.sorted c.in_ok-not_loaded.ensures.here)
+    stands_next m operand c.args.progress.now _ c.in_ok-sources.sources.items c.in_ok-modules.modules.items c.args.round.items c.in_ok-paths.paths.items c.in_ok-not_loaded.field-0.items stands read.0 made.0 made.1 read.1
+    (record { here = c.in_ok-keep.ensures.here; which = c.in_ok-keep.ensures.which }) (c.in_ok-paths.ensures ∙ ap (flat_map led_from) c.as_slice.ensures.value) c.in_ok-not_loaded.ensures.sorted c.in_ok-not_loaded.ensures.here)
 
 pub returns-clause-held : goal.returns-clause-held
 returns-clause-held g c path l is = elim (c.in_ok-keep.ensures.which path l is) [
