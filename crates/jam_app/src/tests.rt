@@ -224,6 +224,25 @@ fn calls_have_edges_to_what_their_names_declare(rt: HostRuntime) -> Result<(), F
             "function f() { f(); }\nfunction g() { h(); }\nfunction h() { g(); }\n",
             "index.js:1:17 -> index.js:1:1 f\nindex.js:2:17 -> index.js:3:1 h\nindex.js:3:17 -> index.js:2:1 g\n",
         ),
+    ] {
+        let mut bench = set_up(alloc, "index.js", text.as_bytes(), 0, 99)?;
+        let words = words_of(alloc, "graph index.js")?;
+        let status = ran::<HostRuntime, Brand>(
+            &rt,
+            alloc,
+            &mut bench,
+            words.as_slice(),
+            Blank::new(1),
+        );
+        compare(&rt, &bench, &status, 0, out, "");
+    }
+    Ok(())
+}
+
+#[test]
+fn calls_have_edges_to_what_comes_to_their_callee(rt: HostRuntime) -> Result<(), Fail> {
+    let alloc = rt.alloc();
+    for (text, out) in [
         (
             "exports.go = function () { };\nexports.go();\n",
             "index.js:2:11 -> index.js:1:14 go\n",
