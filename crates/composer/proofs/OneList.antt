@@ -10,13 +10,14 @@ use Rattle.std.specs.List.{AllByRecursion}
 use Rattle.std.specs.List.Sorted.{IsStrictlySortedBy}
 use Rattle.jam_base.specs.declared.edge.Edge.{Edge}
 use Rattle.jam_base.specs.Edges.{edge_order}
-use Rattle.js_scopes.proofs.Members.{none, cons_cases, here, there}
+use Rattle.composer.proofs.OrderLemmas.{not_itself}
+use Rattle.composer.proofs.Members.{none, cons_cases, here, there}
 use Rattle.flow_rules.specs.Constraints.{ModuleConstraints}
 use Rattle.composer.specs.declared.application.Link.{Link}
 use Rattle.composer.specs.Edges.{IsEdgeList}
 
-order_total : IsTotalOrder edge_order
-order_total = search (comparing, rules) depth 12
+pub edge_total : IsTotalOrder edge_order
+edge_total = search (comparing, rules) depth 12
 
 opposite : (r : Ordering) → r ≡ Less → ordering_reverse r ≡ Less → ⊥
 opposite Less e g = cc
@@ -26,9 +27,6 @@ opposite Greater e g = cc
 module _ {X : Type 0} {R : X → X → Ordering} (o : IsTotalOrder R) where
   not_both : (x y : X) → R x y ≡ Less → R y x ≡ Less → ⊥
   not_both x y e g = opposite (R x y) e (sym (o.antisymm y x) ∙ g)
-
-  not_itself : (x : X) → R x x ≡ Less → ⊥
-  not_itself x e = not_both x x e e
 
   less_later : (x : X) (xs : List X) → AllByRecursion (λ y. R x y ≡ Less) xs → (y : X) → Contains xs y → R x y ≡ Less
   less_later x [] h y c = absurd (none y c)
@@ -52,11 +50,11 @@ module _ {X : Type 0} {R : X → X → Ordering} (o : IsTotalOrder R) where
 
       into_tail : (x y : X) (xs ys : List X) → x ≡ y → AllByRecursion (λ z. R x z ≡ Less) xs → (z : X) → Contains xs z → Contains (y ∷ ys) z → Contains ys z
       into_tail x y xs ys e h z c d = elim (cons_cases y ys z d) [
-        | inl k ↦ absurd (not_itself x (subst (λ w. R x w ≡ Less) (sym (e ∙ k)) (less_later x xs h z c)))
+        | inl k ↦ absurd (not_itself o x (subst (λ w. R x w ≡ Less) (sym (e ∙ k)) (less_later x xs h z c)))
         | inr k ↦ k
       ]
 
--- the call edges stand in one list
+-- the call edges stand in at most one list
 pub one_edge_list : (modules : List ModuleConstraints) (links : List Link) (xs ys : List Edge) → IsEdgeList modules links xs → IsEdgeList modules links ys → xs ≡ ys
 one_edge_list modules links xs ys p q =
-    one_list order_total xs ys p.sorted q.sorted (λ e c. (q.edges_are e).1 ((p.edges_are e).0 c)) (λ e c. (p.edges_are e).1 ((q.edges_are e).0 c))
+    one_list edge_total xs ys p.sorted q.sorted (λ e c. (q.edges_are e).1 ((p.edges_are e).0 c)) (λ e c. (p.edges_are e).1 ((q.edges_are e).0 c))

@@ -1,9 +1,11 @@
 pub mod Application
+pub mod CallEdges
 pub mod Edges
-pub mod Found
 pub mod Natives
-pub mod Plain
-pub mod PlainCallees
+pub mod Numbered
+pub mod Numbers
+pub mod Rows
 pub mod Solution
+pub mod Solved
 pub mod Steps
-pub mod Walk
+pub mod Ways

@@ -3,13 +3,20 @@
 #![tactic(auto)]
 
 mod application;
-mod found;
+mod build;
+mod call_graph;
+mod edges;
 mod law;
-mod plain;
+mod numbers;
+mod sets;
+mod sweep;
 mod system;
-mod walk;
+mod ways;
 
 pub use application::{Link, ModuleVertex, Value};
-pub use law::{least_solution, one_edge_list, plain_module};
-pub use plain::plain_edges;
+pub use call_graph::{Graph, compose};
+pub use law::{least_solution, one_edge_list};
 pub use system::{Arrow, CallSite, Callable, System};
+
+#[cfg(test)]
+mod tests;

@@ -1,76 +1,68 @@
--- What flow_rules sees of each kind of node.
-use Rattle.std.proofs.Common.{◌≡◌, List, [], ◌∷◌, sym, ap, ◌∙◌, Option, Some, false}
-use Rattle.std.specs.List.{flat_map}
-use Rattle.std.proofs.lemmas.List.Folds.{flat_map-map}
+-- What is seen of each kind of node.
+use Rattle.std.proofs.Common.{◌≡◌, List, map, Option}
 use Rattle.js_tree.specs.declared.token.Token.{Token}
-use Rattle.js_tree.specs.declared.tree.Arguments.{Arguments}
 use Rattle.js_tree.specs.declared.tree.Block.{Block}
-use Rattle.js_tree.specs.declared.tree.Expr.{Expr, Expr-F, fold-roll-Expr}
+use Rattle.js_tree.specs.declared.tree.Expr.{Expr}
+use Rattle.js_tree.specs.declared.tree.Expr.TheOpen.{Expr-F, Function-F, Pattern-F, Stmt-F}
 use Rattle.js_tree.specs.declared.tree.Expr.TheVariants as expression
-use Rattle.js_tree.specs.declared.tree.Expr.TheVariants.{rolls-Name, rolls-Chain}
-use Rattle.js_tree.specs.declared.tree.Function.{Function, fold-roll-Function}
-use Rattle.js_tree.specs.declared.tree.Function.TheOpen.{Function-F, Stmt-F}
+use Rattle.js_tree.specs.declared.tree.Function.{Function}
 use Rattle.js_tree.specs.declared.tree.Function.TheVariants as made
-use Rattle.js_tree.specs.declared.tree.Function.TheVariants.{rolls-Keyword}
+use Rattle.js_tree.specs.declared.tree.Listed.{Listed}
 use Rattle.js_tree.specs.declared.tree.Params.{Params}
-use Rattle.js_tree.specs.declared.tree.Stmt.{Stmt, fold-roll-Stmt}
+use Rattle.js_tree.specs.declared.tree.Pattern.{Pattern}
+use Rattle.js_tree.specs.declared.tree.Pattern.TheVariants as bound
+use Rattle.js_tree.specs.declared.tree.Slot.{Slot, out-Slot}
+use Rattle.js_tree.specs.declared.tree.Stmt.{Stmt}
 use Rattle.js_tree.specs.declared.tree.Stmt.TheVariants as statement
-use Rattle.js_tree.specs.declared.tree.Stmt.TheVariants.{rolls-Plain, rolls-Fun}
 use Rattle.js_tree.specs.declared.tree.Tail.{Tail}
-use Rattle.js_tree.specs.declared.tree.Tail.TheVariants as tail
-use Rattle.js_tree.proofs.WellFormed.{call_of}
-use Rattle.js_scopes.specs.Scopes.{name_list}
-use Rattle.flow_rules.specs.declared.vertex.Vertex.TheVariants as vertex
-use Rattle.flow_rules.specs.Flows.{Flowing, expr_step, function_step, stmt_step, expr, function, stmt}
+use Rattle.js_tree.proofs.Folds as folds
+use Rattle.js_tree.proofs.Folds.{map_listed, map_tail, map_init, map_block}
+use Rattle.flow_rules.specs.Flows.{expr_step, function_step, pattern_step, stmt_step, slot_step, expr, function, pattern, stmt, slot}
 
-pub at-Name : (t : Token) → expr (expression.Name t) ≡ expr_step (Expr-F.Name t)
-unfolding expr
-at-Name t = ap expr (sym (rolls-Name t)) ∙ fold-roll-Expr Flowing expr_step (Expr-F.Name t)
+pub at-Assign : (target : Pattern) (op : Token) (value : Expr) → expr (expression.Assign target op value) ≡ expr_step (Expr-F.Assign (pattern target) op (expr value))
+unfolding expr function pattern stmt slot
+at-Assign = folds.at-Assign expr_step function_step pattern_step stmt_step slot_step
 
-pub at-Chain : (head : Expr) (tails : List Tail) → expr (expression.Chain head tails) ≡ expr_step (Expr-F.Chain (expr head) tails)
-unfolding expr
-at-Chain head tails = ap expr (sym (rolls-Chain head tails)) ∙ fold-roll-Expr Flowing expr_step (Expr-F.Chain head tails)
+pub at-Chain : (head : Expr) (tails : List (Tail Expr)) → expr (expression.Chain head tails) ≡ expr_step (Expr-F.Chain (expr head) (map (map_tail expr) tails))
+unfolding expr function pattern stmt slot
+at-Chain = folds.at-Chain expr_step function_step pattern_step stmt_step slot_step
 
--- what is seen of a function with the word `function`
-abbrev pub keyword_seen : Token → Option Token → Params → Block Stmt → Flowing
-keyword_seen word name params body = record {
-  own_name = name_list name;
-  value = λ known. Some (vertex.Lit (known.number word.start));
-  requires_it = λ known. false;
-  flows = λ known. flat_map (λ x. (stmt x).flows known) body.body;
-  notes = λ known. flat_map (λ x. (stmt x).notes known) body.body;
-}
+pub at-Value : (f : Function) → expr (expression.Fun f) ≡ expr_step (Expr-F.«Expr::Fun» (function f))
+unfolding expr function pattern stmt slot
+at-Value = folds.at-Value expr_step function_step pattern_step stmt_step slot_step
 
-pub at-Keyword : (word : Token) (name : Option Token) (params : Params) (body : Block Stmt) → function (made.Keyword word name params body) ≡ keyword_seen word name params body
-unfolding function stmt
-at-Keyword word name params body =
-    ap function (sym (rolls-Keyword word name params body)) ∙ fold-roll-Function Flowing Flowing function_step stmt_step (Function-F.Keyword word name params body)
-    ∙ (λ i. record {
-      own_name = name_list name;
-      value = λ known. Some (vertex.Lit (known.number word.start));
-      requires_it = λ known. false;
-      flows = λ known. flat_map-map (λ (x : Flowing). x.flows known) stmt body.body i;
-      notes = λ known. flat_map-map (λ (x : Flowing). x.notes known) stmt body.body i;
-    })
+pub at-Literal : (t : Token) → expr (expression.Literal t) ≡ expr_step (Expr-F.Literal t)
+unfolding expr function pattern stmt slot
+at-Literal = folds.at-Literal expr_step function_step pattern_step stmt_step slot_step
+
+pub at-Name : (t : Token) → expr (expression.Name t) ≡ expr_step (Expr-F.«Expr::Name» t)
+unfolding expr function pattern stmt slot
+at-Name = folds.at-Name expr_step function_step pattern_step stmt_step slot_step
+
+pub at-Keyword : (word : Token) (name : Option Token) (params : Params) (body : Block Stmt) → function (made.Keyword word name params body) ≡ function_step (Function-F.Keyword word name params (map_block stmt body))
+unfolding expr function pattern stmt slot
+at-Keyword = folds.at-Keyword expr_step function_step pattern_step stmt_step slot_step
+
+pub at-Target : (t : Token) → pattern (bound.Name t) ≡ pattern_step (Pattern-F.«Pattern::Name» t)
+unfolding expr function pattern stmt slot
+at-Target = folds.at-Target expr_step function_step pattern_step stmt_step slot_step
+
+pub at-Member : (chain : Expr) → pattern (bound.Member chain) ≡ pattern_step (Pattern-F.Member (expr chain))
+unfolding expr function pattern stmt slot
+at-Member = folds.at-Member expr_step function_step pattern_step stmt_step slot_step
+
+pub at-Slot : (x : Slot) → slot x ≡ slot_step (record { target = pattern (out-Slot x).target; init = map_init expr (out-Slot x).init })
+unfolding expr function pattern stmt slot
+at-Slot = folds.at-Slot expr_step function_step pattern_step stmt_step slot_step
+
+pub at-Fun : (f : Function) → stmt (statement.Fun f) ≡ stmt_step (Stmt-F.«Stmt::Fun» (function f))
+unfolding expr function pattern stmt slot
+at-Fun = folds.at-Fun expr_step function_step pattern_step stmt_step slot_step
 
 pub at-Plain : (value : Expr) (semi : Option Token) → stmt (statement.Plain value semi) ≡ expr value
-unfolding function stmt
-at-Plain value semi = ap stmt (sym (rolls-Plain value semi)) ∙ fold-roll-Stmt Flowing Flowing function_step stmt_step (Stmt-F.Plain value semi)
+unfolding expr function pattern stmt slot
+at-Plain = folds.at-Plain expr_step function_step pattern_step stmt_step slot_step
 
-pub at-Fun : (f : Function) → stmt (statement.Fun f) ≡ stmt_step (Stmt-F.Fun (function f))
-unfolding function stmt
-at-Fun f = ap stmt (sym (rolls-Fun f)) ∙ fold-roll-Stmt Flowing Flowing function_step stmt_step (Stmt-F.Fun f)
-
--- what is seen of a plain call
-abbrev pub call_seen : Token → Arguments → Flowing
-call_seen t a = expr_step (Expr-F.Chain (expr_step (Expr-F.Name t)) (tail.Call a ∷ []))
-
-pub at_call : (t : Token) (a : Arguments) (semi : Option Token) → stmt (statement.Plain (call_of t a) semi) ≡ call_seen t a
-at_call t a semi = at-Plain (call_of t a) semi ∙ at-Chain (expression.Name t) (tail.Call a ∷ []) ∙ ap (λ h. expr_step (Expr-F.Chain h (tail.Call a ∷ []))) (at-Name t)
-
--- what is seen of a declaration
-abbrev pub declaration_seen : Token → Token → Params → Block Stmt → Flowing
-declaration_seen word name params body = stmt_step (Stmt-F.Fun (keyword_seen word (Some name) params body))
-
-pub at_declaration : (word name : Token) (params : Params) (body : Block Stmt) → stmt (statement.Fun (made.Keyword word (Some name) params body)) ≡ declaration_seen word name params body
-at_declaration word name params body = at-Fun (made.Keyword word (Some name) params body) ∙ ap (λ f. stmt_step (Stmt-F.Fun f)) (at-Keyword word (Some name) params body)
+pub at-Vars : (word : Token) (decls : List (Listed Slot)) (semi : Option Token) → stmt (statement.Vars word decls semi) ≡ stmt_step (Stmt-F.Vars word (map (map_listed slot) decls) semi)
+unfolding expr function pattern stmt slot
+at-Vars = folds.at-Vars expr_step function_step pattern_step stmt_step slot_step

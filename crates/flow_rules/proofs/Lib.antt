@@ -1,3 +1,9 @@
-pub mod FlowLemmas
+pub mod CallRules
 pub mod Laws
+pub mod LawLemmas
+pub mod NodeRules
 pub mod Order
+pub mod RuleLemmas
+pub mod SortedLemmas
+pub mod TreeRules
+pub mod WalkLemmas

@@ -1,4 +1,5 @@
-pub mod Ascending
 pub mod Constraints
 pub mod Flows
+pub mod Gathering
+pub mod Rules
 pub mod Vertices

@@ -14,12 +14,6 @@ is_shared Elem = true
 is_shared (Global name) = true
 is_shared _ = false
 
--- only the module itself can name it: its variables and the values of its expressions
-abbrev pub is_internal : Vertex → Bool
-is_internal (Var local) = true
-is_internal (Exp number) = true
-is_internal _ = false
-
 -- the kind of a vertex, from 0 in the order of the variants, and then its fields; a name by its bytes
 abbrev pub vertex_key : Vertex → List ℕ
 vertex_key (Prop name) = 0 ∷ name
@@ -38,6 +32,28 @@ vertex_key (Res offset part) = 12 ∷ offset ∷ part ∷ []
 vertex_key (Req offset) = 13 ∷ offset ∷ []
 vertex_key (Var local) = 14 ∷ local ∷ []
 vertex_key (Exp number) = 15 ∷ number ∷ []
+
+-- the name of a property or a global
+abbrev pub name_of : Vertex → List ℕ
+name_of (Prop name) = name
+name_of (Global name) = name
+name_of _ = []
+
+-- the numbers of a vertex in their order, and 0 past them
+abbrev pub numbers_of : Vertex → ℕ × ℕ × ℕ
+numbers_of (Param function index) = (function, index, 0)
+numbers_of (Rest function) = (function, 0, 0)
+numbers_of (Ret function) = (function, 0, 0)
+numbers_of (Lit function) = (function, 0, 0)
+numbers_of (Callee offset part) = (offset, part, 0)
+numbers_of (Arg offset part index) = (offset, part, index)
+numbers_of (More offset part) = (offset, part, 0)
+numbers_of (Recv offset part) = (offset, part, 0)
+numbers_of (Res offset part) = (offset, part, 0)
+numbers_of (Req offset) = (offset, 0, 0)
+numbers_of (Var local) = (local, 0, 0)
+numbers_of (Exp number) = (number, 0, 0)
+numbers_of _ = (0, 0, 0)
 
 -- vertices go by their keys
 abbrev pub vertex_order : Vertex → Vertex → Ordering

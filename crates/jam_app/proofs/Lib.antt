@@ -1,2 +1,16 @@
+pub mod Bad
+pub mod Causes
+pub mod Ends
+pub mod Following
+pub mod Keeping
+pub mod LinkLemmas
 pub mod Pieces
+pub mod PrintLemmas
 pub mod Refusing
+pub mod RoundLemmas
+pub mod Sizes
+pub mod Standing
+pub mod Steps
+pub mod Targets
+pub mod Whole
+pub mod WholeGraph

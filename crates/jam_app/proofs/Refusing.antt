@@ -1,5 +1,5 @@
 -- Why a file has no tree, and where its text is left.
-use Rattle.std.proofs.Common.{◌≡◌, ℕ, zero, suc, ◌+◌, ◌-◌, ◌<◌, ◌≤◌, Bool, true, false, List, [], ◌∷◌, length, nat_lt, ap, sym, subst, ◌∙◌, arith, true≢false, ⊎_elim, Option, Some, None, Result, Err, ◌&&◌}
+use Rattle.std.proofs.Common.{◌≡◌, ℕ, zero, suc, ◌+◌, ◌-◌, ◌<◌, ◌≤◌, Bool, true, false, List, [], ◌∷◌, length, nat_lt, ap, sym, subst, ◌∙◌, arith, true≢false, ⊎_elim, Result, Ok, Err, ◌&&◌}
 use Rattle.std.specs.Str.{IsAscii}
 use Rattle.std.proofs.lemmas.Bool.{cases_lt}
 use Rattle.std.proofs.lemmas.List.{length-drop}
@@ -10,23 +10,10 @@ use Rattle.js_tree.specs.Lexing.{Place, Next, LexesTo, start_of}
 use Rattle.js_tree.specs.Spells.{Spells, limit}
 use Rattle.js_parser.specs.declared.fault.ParseFault.{ParseFault}
 use Rattle.js_parser.specs.declared.fault.ParseFault.TheVariants as fault
-use Rattle.js_parser.specs.Answers.{TellsTooLarge, IsPlaced}
+use Rattle.js_parser.specs.Answers.{TellsTooLarge, IsPlaced, IsTree}
 use Rattle.js_parser.specs.Reading.{IsStop}
-use Rattle.jam_base.specs.Files.{Files}
-use Rattle.jam_app.specs.declared.refusal.Refusal.{Refusal}
-use Rattle.jam_app.specs.declared.refusal.Refusal.TheVariants as refusal
-use Rattle.std.specs.Option.{option_map, IfSome}
-use Rattle.node_resolve.specs.declared.target.Target.{Target}
-use Rattle.node_resolve.specs.Targets.{entry_target}
-use Rattle.jam_app.specs.Entries.{Module, entry_in, module_path, module_at}
-use Rattle.jam_app.specs.Graphs.{is_ascii, IsSpelled, IsBad, IsGraphText}
-use Rattle.jam_app.specs.Refusals.{IsRefusedAt, not_ascii, too_large, stopped, IsRefusal, no_entry, not_in_profile}
-use Rattle.jam_app.specs.declared.graph.Bad.{Bad}
-use Rattle.jam_app.specs.declared.graph.Bad.TheVariants.{At, OutOfMemory}
-use Rattle.jam_app.specs.declared.stop.Stop.{Stop}
-use Rattle.jam_app.specs.declared.status.Status.{Status}
-use Rattle.jam_app.specs.Outcomes.{RefusesAlways}
-use Rattle.jam_app.specs.Work.{HasBadCause, HasStopCause, stop_of}
+use Rattle.jam_app.specs.Refusals.{IsRefusedAt, not_ascii, stopped}
+use Rattle.jam_app.specs.Texts.{is_ascii, IsOnlyTree, IsBad}
 
 -- bytes that pass the test are ASCII
 pub ascii_bytes : (bytes : List ℕ) → is_ascii bytes ≡ true → IsAscii bytes
@@ -58,67 +45,34 @@ stop_within text at stop =
     omega (arith, stop.place, stop.trivia.within)
 
 -- a byte that isn't ASCII
-pub bad_bytes : (bytes : List ℕ) (at : ℕ) → is_ascii bytes ≡ false → at ≡ 0 → IsBad bytes × IsRefusedAt bytes at
-bad_bytes bytes at other first =
-    (λ tree spelled. true≢false (sym spelled.ascii ∙ other), subst (IsRefusedAt bytes) (sym first) (not_ascii other))
+pub bad_bytes : (bytes : List ℕ) (at : ℕ) → is_ascii bytes ≡ false → length bytes ≤ limit → at ≡ 0 → IsBad bytes × (length bytes ≤ limit) × IsRefusedAt bytes at
+bad_bytes bytes at other small first =
+    (λ tree spelled. true≢false (sym spelled.ascii ∙ other), small, subst (IsRefusedAt bytes) (sym first) (not_ascii other))
 
--- a text over the limit
-pub bad_size : (bytes text : List ℕ) (n at : ℕ) (r : Result Tree ParseFault) → text ≡ bytes → is_ascii bytes ≡ true → TellsTooLarge text r → r ≡ Err (fault.TooLarge n) → at ≡ 0
-    → IsBad bytes × IsRefusedAt bytes at
-bad_size bytes text n at r same ascii tells is first =
-    let over : limit < length bytes = subst (λ (t : List ℕ). limit < length t) same (tells.only n is).0 in
-    (λ tree spelled. absurd (omega (arith, over, spelled.spells.fits)), subst (IsRefusedAt bytes) (sym first) (too_large ascii over))
+no_size : (n at : ℕ) → ◌≡◌ {A = Result Tree ParseFault} (Err (fault.NotInProfile at)) (Err (fault.TooLarge n)) → ⊥
+no_size n at e = cc
+
+-- a text over the limit is TooLarge, so any other is within it
+within_limit : (text : List ℕ) (at : ℕ) (r : Result Tree ParseFault) → TellsTooLarge text r → r ≡ Err (fault.NotInProfile at) → length text ≤ limit
+within_limit text at r tells is = ⊎_elim
+    (λ (over : limit < length text). absurd (no_size (length text) at (sym is ∙ tells.over over)))
+    (λ (within : length text ≤ limit). within)
+    (cases_lt limit (length text))
 
 -- a text that no tree spells
-pub bad_text : (bytes text : List ℕ) (at offset : ℕ) → text ≡ bytes → is_ascii bytes ≡ true → IsStop (start_of text) at → ((tree : Tree) → Spells text tree → ⊥) → offset ≡ at
-    → IsBad bytes × IsRefusedAt bytes offset
-bad_text bytes text at offset same ascii stop none is = (
-  λ tree spelled. none tree (subst (λ (t : List ℕ). Spells t tree) (sym same) spelled.spells),
-  subst (IsRefusedAt bytes) (sym is) (stopped at ascii (subst (λ (t : List ℕ). IsStop (start_of t) at) same stop)),
-)
+pub bad_text : (text : List ℕ) (at offset : ℕ) (r : Result Tree ParseFault) → is_ascii text ≡ true → TellsTooLarge text r → r ≡ Err (fault.NotInProfile at)
+    → IsStop (start_of text) at → ((tree : Tree) → Spells text tree → ⊥) → offset ≡ at → IsBad text × (length text ≤ limit) × IsRefusedAt text offset
+bad_text text at offset r ascii tells told stop none is =
+    (λ tree spelled. none tree spelled.spells, within_limit text at r tells told, subst (IsRefusedAt text) (sym is) (stopped at ascii stop))
 
--- a text over the limit is TooLarge, so reading stops at an offset that a place can have
+-- the tree is the only one
+pub one_tree : (text : List ℕ) (tree : Tree) (r : Result Tree ParseFault) → is_ascii text ≡ true → r ≡ Ok tree → Spells text tree
+    → ((other : Tree) → Spells text other → IsTree r other) → IsOnlyTree text tree
+one_tree text tree r ascii is spells only = record {
+  spelled = record { ascii = ascii; spells = spells };
+  only = λ other spelled. sym ((subst (λ (s : Result Tree ParseFault). IsTree s other) is (only other spelled.spells)).0);
+}
+
+-- so reading stops at an offset that a place can have
 pub small_stop : (text : List ℕ) (at : ℕ) (r : Result Tree ParseFault) → TellsTooLarge text r → IsPlaced text r → r ≡ Err (fault.NotInProfile at) → at < 4294967295
-small_stop text at r tells placed is = ⊎_elim
-    (λ (over : limit < length text). absurd (other (sym is ∙ tells.over over)))
-    (λ (within : length text ≤ limit). omega (arith, stop_within text at (placed at is)))
-    (cases_lt limit (length text))
-  where
-    other : ◌≡◌ {A = Result Tree ParseFault} (Err (fault.NotInProfile at)) (Err (fault.TooLarge (length text))) → ⊥
-    other e = cc
-
-some_none : {entry : Module} → ◌≡◌ {A = Option Module} (Some entry) None → ⊥
-some_none e = cc
-
-same_some : {a b : Module} → ◌≡◌ {A = Option Module} (Some a) (Some b) → a ≡ b
-same_some e = cc
-
--- a text is owed or a refusal, and not both
-pub no_refusal : (operand : List ℕ) (files : Files) (text : List ℕ) (owed : Refusal) → IsGraphText operand files text → IsRefusal operand files owed → ⊥
-no_refusal operand files text owed owes (no_entry none) = some_none (sym owes.found ∙ none)
-no_refusal operand files text owed owes (not_in_profile entry at found bad where_) =
-    bad owes.graph.tree (subst (λ (m : Module). IsSpelled m.bytes owes.graph.tree) (same_some (sym owes.found ∙ found)) owes.graph.spelled)
-
--- an operand whose target isn't a module
-pub no_module : (operand : List ℕ) (files : Option Files) (found : Target) (path : Option (List ℕ)) → IfSome files (λ m. found ≡ entry_target m (Some operand))
-    → path ≡ module_path found → path ≡ None → IfSome files (λ m. IsRefusal operand m refusal.NoEntry)
-no_module operand None found path is named none = tt
-no_module operand (Some m) found path is named none =
-    no_entry (ap (option_map (module_at m)) (ap module_path (sym is) ∙ sym named ∙ none))
-
--- a module that no tree spells
-pub no_tree : (operand path bytes : List ℕ) (bad : Bad) (files : Option Files) (before now : ℕ) (stop : Stop)
-    → IfSome files (λ m. entry_in operand m ≡ Some (record { path = path; bytes = bytes }))
-    → HasBadCause bytes bad → stop ≡ stop_of path bad → HasStopCause (IsRefusal operand) files before now stop
-no_tree operand path bytes bad files before now stop found cause is = subst (HasStopCause (IsRefusal operand) files before now) (sym is) (by bad cause files found)
-  where
-    by : (b : Bad) → HasBadCause bytes b → (fs : Option Files) → IfSome fs (λ m. entry_in operand m ≡ Some (record { path = path; bytes = bytes }))
-        → HasStopCause (IsRefusal operand) fs before now (stop_of path b)
-    by OutOfMemory cause fs found = tt
-    by (At place) cause None found = tt
-    by (At place) cause (Some m) found = not_in_profile (record { path = path; bytes = bytes }) place.offset found cause.0 cause.1
-
--- where a text is owed, no refusal is, so any status will do
-pub refuses_none : (status : Status) (operand text : List ℕ) (files : Option Files) → IfSome files (λ m. IsGraphText operand m text) → IfSome files (λ m. RefusesAlways status operand m)
-refuses_none status operand text None graph = tt
-refuses_none status operand text (Some m) graph = λ owed refused. absurd (no_refusal operand m text owed graph refused)
+small_stop text at r tells placed is = omega (arith, stop_within text at (placed at is), within_limit text at r tells is)

@@ -1,59 +1,58 @@
--- The text of a module and the call graph that it owes.
-use Rattle.std.specs.Prelude.{◌≡◌, ℕ, Bool, true, List, [], ◌∷◌, map, Some, unwrap_or, slice_get, nat_lt}
-use Rattle.std.specs.List.{list_all}
-use Rattle.js_tree.specs.declared.tree.Tree.{Tree}
-use Rattle.js_tree.specs.Spells.{Spells}
+-- The call graph that is owed.
+use Rattle.std.specs.Prelude.{◌≡◌, ℕ, List, [], map, Some, None, slice_get}
 use Rattle.jam_base.specs.Files.{Files}
 use Rattle.jam_base.specs.Place.{place_at}
 use Rattle.jam_base.specs.declared.edge.Edge.{Edge}
+use Rattle.jam_base.specs.declared.edge.FunctionRef.{FunctionRef}
 use Rattle.js_scopes.specs.declared.function.FunctionInfo.{FunctionInfo}
 use Rattle.js_scopes.specs.Scopes.{functions_of}
 use Rattle.flow_rules.specs.Flows.{constraints_of}
+use Rattle.composer.specs.declared.application.Link.{Link}
 use Rattle.composer.specs.Edges.{IsEdgeList}
 use Rattle.report_text.specs.declared.shown.PathStep.{PathStep}
 use Rattle.report_text.specs.declared.shown.Shown.{Shown}
 use Rattle.report_text.specs.Graph.{graph_text_of}
-use Rattle.jam_app.specs.Entries.{Module, entry_in}
+use Rattle.jam_app.specs.Entries.{entry_path}
+use Rattle.jam_app.specs.Rounds.{LoadedModule, IsApplication, AreLinks}
 
--- all bytes are below 128, so the bytes are the text
-abbrev pub is_ascii : List ℕ → Bool
-is_ascii bytes = list_all (λ b. nat_lt b 128) bytes
+-- what is printed of a function that no edge can name
+abbrev pub nowhere : Shown
+nowhere = record { path = []; line = 1; column = 1; name = [] }
 
--- the tree spells the text in the file
-pub record IsSpelled (bytes : List ℕ) (tree : Tree) : Type 0 where
-  pub ascii : is_ascii bytes ≡ true
-  pub spells : Spells bytes tree
+-- a function of a module with this path and text, as it is printed
+abbrev pub shown_at : List ℕ → List ℕ → FunctionInfo → Shown
+shown_at path text f = record { path = path; line = (place_at text f.start).line; column = (place_at text f.start).column; name = f.name }
 
--- no tree spells the text in the file
-abbrev pub IsBad : List ℕ → Type 0
-IsBad bytes = (tree : Tree) → IsSpelled bytes tree → ⊥
+abbrev pub shown_in : LoadedModule → FunctionInfo → Shown
+shown_in m = shown_at m.path m.bytes
 
--- the function with this number, as it is printed
-abbrev pub function_at : List FunctionInfo → ℕ → FunctionInfo
-function_at functions number = unwrap_or (slice_get functions number) (record { start = 0; params = 0; name = [] })
+-- the function with this number of a module, as it is printed
+abbrev pub shown_number : ℕ → LoadedModule → Shown
+shown_number f m = elim (slice_get (functions_of m.tree) f) [ None ↦ nowhere | Some info ↦ shown_in m info ]
 
-abbrev pub shown_function : List ℕ → List ℕ → FunctionInfo → Shown
-shown_function path text f = record { path = path; line = (place_at text f.start).line; column = (place_at text f.start).column; name = f.name }
+-- a function of the modules, as it is printed
+abbrev pub shown_function : List LoadedModule → FunctionRef → Shown
+shown_function modules f = elim (slice_get modules f.module) [ None ↦ nowhere | Some m ↦ shown_number f.function m ]
 
--- a call edge inside a module with this path, text and functions, as it is printed
-abbrev pub shown_edge : List ℕ → List ℕ → List FunctionInfo → Edge → PathStep
-shown_edge path text functions edge = record {
-  path = path;
-  line = (place_at text edge.offset).line;
-  column = (place_at text edge.offset).column;
-  callee = shown_function path text (function_at functions edge.callee.function);
-}
+-- a call of this function at an offset of a module, as it is printed
+abbrev pub shown_call : ℕ → Shown → LoadedModule → PathStep
+shown_call offset callee m = record { path = m.path; line = (place_at m.bytes offset).line; column = (place_at m.bytes offset).column; callee = callee }
 
--- the text is the call graph of a module that stands alone: the call edges of the least solution of its constraints
-pub record IsModuleGraph (path bytes text : List ℕ) : Type 0 where
-  pub tree : Tree
-  pub edges : List Edge
-  pub spelled : IsSpelled bytes tree
-  pub edges_are : IsEdgeList (constraints_of tree ∷ []) [] edges
-  pub graph : text ≡ graph_text_of (map (shown_edge path bytes (functions_of tree)) edges)
+-- a call edge between functions of the modules, as it is printed
+abbrev pub shown_edge : List LoadedModule → Edge → PathStep
+shown_edge modules edge = elim (slice_get modules edge.caller.module) [
+  | None ↦ record { path = []; line = 1; column = 1; callee = shown_function modules edge.callee }
+  | Some m ↦ shown_call edge.offset (shown_function modules edge.callee) m
+]
 
--- the text that `graph` owes for the operand over the files
+-- the text that `graph` owes for the operand over the files: the call edges of the least solution of the constraints of all loaded modules at once
 pub record IsGraphText (operand : List ℕ) (files : Files) (text : List ℕ) : Type 0 where
-  pub entry : Module
-  pub found : entry_in operand files ≡ Some entry
-  pub graph : IsModuleGraph entry.path entry.bytes text
+  pub entry : List ℕ
+  pub found : entry_path operand files ≡ Some entry
+  pub modules : List LoadedModule
+  pub application : IsApplication files entry modules
+  pub links : List Link
+  pub links_are : AreLinks files modules links
+  pub edges : List Edge
+  pub edges_are : IsEdgeList (map (λ m. constraints_of m.tree) modules) links edges
+  pub graph : text ≡ graph_text_of (map (shown_edge modules) edges)

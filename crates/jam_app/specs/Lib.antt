@@ -1,8 +1,13 @@
 pub mod Entries
 pub mod Graphs
+pub mod Loading
 pub mod Numbers
 pub mod Outcomes
+pub mod Parts
+pub mod Progress
 pub mod Refusals
 pub mod Requests
+pub mod Rounds
+pub mod Texts
 pub mod Work
 pub mod Written

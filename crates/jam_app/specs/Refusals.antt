@@ -1,23 +1,60 @@
 -- Why a request is refused.
-use Rattle.std.specs.Prelude.{◌≡◌, ℕ, ◌<◌, List, length, Some, None, true, false}
+use Rattle.std.specs.Prelude.{◌≡◌, ℕ, ◌+◌, ◌<◌, ◌≤◌, List, [], ◌∷◌, ◌++◌, length, Some, None, true, false, nat_lt, if◌then◌else◌}
 use Rattle.js_tree.specs.Lexing.{start_of}
 use Rattle.js_tree.specs.Spells.{limit}
 use Rattle.js_parser.specs.Reading.{IsStop}
 use Rattle.jam_base.specs.Files.{Files}
-use Rattle.jam_app.specs.Entries.{Module, entry_in}
-use Rattle.jam_app.specs.Graphs.{IsBad, is_ascii}
+use Rattle.jam_app.specs.Entries.{entry_path}
+use Rattle.jam_app.specs.Texts.{IsBad, is_ascii}
+use Rattle.jam_app.specs.Rounds.{bytes_at, total_bytes, module_limit, IsRound, Fits, NoneBad}
 use Rattle.jam_app.specs.declared.refusal.Refusal.{Refusal}
 use Rattle.jam_app.specs.declared.refusal.Refusal.TheVariants as refusal
 
--- where a text that no tree spells is refused: at 0 where it isn't ASCII or is over the limit, else at the start of a
--- token, at a character that begins none, or at its end
+-- where a text within the limit that no tree spells is refused: at 0 where it isn't ASCII, else at the start of a token, at
+-- a character that begins none, or at its end
 pub data IsRefusedAt (bytes : List ℕ) : ℕ → Type 0 where
   not_ascii : is_ascii bytes ≡ false → IsRefusedAt bytes 0
-  too_large : is_ascii bytes ≡ true → limit < length bytes → IsRefusedAt bytes 0
   stopped : (at : ℕ) → is_ascii bytes ≡ true → IsStop (start_of bytes) at → IsRefusedAt bytes at
 
--- the refusal that `graph` owes for the operand over the files
+-- a module of a round, in the application with this entry, where no module of an earlier round is bad: the modules of those
+-- rounds, those in front of it in its own, and those behind it
+pub record IsReached (operand : List ℕ) (files : Files) (before front : List (List ℕ)) (path : List ℕ) (behind : List (List ℕ)) : Type 0 where
+  pub entry : List ℕ
+  pub found : entry_path operand files ≡ Some entry
+  pub number : ℕ
+  pub is_round : IsRound files entry number before (front ++ path ∷ behind)
+  pub none_bad : NoneBad files before
+
+-- one module too many: those before it are within the limits, and it isn't
+pub record IsOneTooMany (operand : List ℕ) (files : Files) (earlier : List (List ℕ)) (path : List ℕ) : Type 0 where
+  pub before : List (List ℕ)
+  pub front : List (List ℕ)
+  pub behind : List (List ℕ)
+  pub earlier_are : earlier ≡ before ++ front
+  pub reached : IsReached operand files before front path behind
+  pub fit : Fits files earlier
+  pub over : Fits files (earlier ++ path ∷ []) → ⊥
+
+-- the bytes of modules up to one, where a module that is one too many adds none
+abbrev pub counted_bytes : Files → List (List ℕ) → List ℕ → ℕ
+counted_bytes files earlier path = total_bytes files earlier + (if nat_lt (length earlier) module_limit then length (bytes_at files path) else 0)
+
+-- the first bad module of a round that is within the limits
+pub record IsFirstBad (operand : List ℕ) (files : Files) (path : List ℕ) : Type 0 where
+  pub before : List (List ℕ)
+  pub front : List (List ℕ)
+  pub behind : List (List ℕ)
+  pub reached : IsReached operand files before front path behind
+  pub fits : Fits files (before ++ front ++ path ∷ behind)
+  pub none_bad : NoneBad files front
+  pub bad : IsBad (bytes_at files path)
+
+-- the refusal that `graph` owes for the operand over the files: no entry; else, round by round, a module too many, or the first bad one
 pub data IsRefusal (operand : List ℕ) (files : Files) : Refusal → Type 0 where
-  no_entry : entry_in operand files ≡ None → IsRefusal operand files refusal.NoEntry
-  not_in_profile : (entry : Module) (at : ℕ) → entry_in operand files ≡ Some entry → IsBad entry.bytes → IsRefusedAt entry.bytes at
-      → IsRefusal operand files (refusal.NotInProfile entry.path at)
+  no_entry : entry_path operand files ≡ None → IsRefusal operand files refusal.NoEntry
+  too_many : (earlier : List (List ℕ)) (path : List ℕ) → IsOneTooMany operand files earlier path
+      → IsRefusal operand files (refusal.TooMany (length earlier + 1) (counted_bytes files earlier path))
+  too_large : (path : List ℕ) → IsFirstBad operand files path → limit < length (bytes_at files path)
+      → IsRefusal operand files (refusal.TooLarge path (length (bytes_at files path)))
+  not_in_profile : (path : List ℕ) (at : ℕ) → IsFirstBad operand files path → length (bytes_at files path) ≤ limit → IsRefusedAt (bytes_at files path) at
+      → IsRefusal operand files (refusal.NotInProfile path at)

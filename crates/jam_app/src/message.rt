@@ -13,6 +13,13 @@ fn not_in_profile(alloc: Global, path: &str, place: Option<Place>) -> Result<Str
     Ok(format!(in alloc; "jam: {path}:{line}:{column}: not in the profile\n")?)
 }
 
+// Says that the file of a module is too large.
+fn too_large(alloc: Global, path: &str, length: u64) -> Result<String, OutOfMemory> {
+    let path = escaped(alloc, path)?;
+    let path = path.as_str();
+    Ok(format!(in alloc; "jam: {path}: {length} bytes, more than 8388608\n")?)
+}
+
 // What a refusal says.
 fn refusal_line(
     alloc: Global,
@@ -21,6 +28,10 @@ fn refusal_line(
 ) -> Result<String, OutOfMemory> {
     match refusal {
         Refusal::NoEntry => Ok(String::from_str(alloc, "jam: no entry\n")?),
+        Refusal::TooMany { modules, bytes } => {
+            Ok(format!(in alloc; "jam: too many: {modules} modules, {bytes} bytes\n")?)
+        }
+        Refusal::TooLarge { path, length } => too_large(alloc, path.as_str(), *length),
         Refusal::NotInProfile { path, at: _ } => not_in_profile(alloc, path.as_str(), place),
     }
 }

@@ -1,10 +1,12 @@
-//! The entry file.
-ghost use Rattle.std.specs.Prelude.{◌≡◌, ◌≤◌, IfSome, OnOk, Some};
-ghost use Rattle.node_resolve.specs.Targets.{entry_target};
+//! The files of modules.
+ghost use Rattle.std.specs.Prelude.{◌≡◌, ◌≤◌, ◌+◌, ◌++◌, ◌∷◌, [], ℕ, List, length, map, OnOk, Some};
 ghost use Rattle.jam_app.specs.Entries as entries;
+ghost use Rattle.jam_app.specs.Progress.{HasExcess, IsExcess, file_at, file_of, size_of};
 ghost use Rattle.jam_app.specs.Refusals.{IsRefusal};
+ghost use Rattle.jam_app.specs.Rounds.{bytes_at};
 ghost use Rattle.jam_app.specs.Work.{Gives};
 
+use crate::size::{BYTES, MODULES, Size};
 use crate::{Refusal, Stop};
 use jam_base::{Folder, ModulePath, ReadFailed};
 use node_resolve::{ResolveFault, Target, entry_of};
@@ -17,8 +19,8 @@ pub(crate) struct Source {
     pub(crate) bytes: Vec<u8>,
 }
 
-// The path of a target that is a module.
-fn module_path(target: Target) -> Option<ModulePath>
+/// The path of a target that is a module.
+pub(crate) fn module_path(target: Target) -> Option<ModulePath>
     ensures { result ≡ entries.module_path target }
 {
     match target {
@@ -27,13 +29,16 @@ fn module_path(target: Target) -> Option<ModulePath>
     }
 }
 
-// The path of the entry that an operand names.
-fn entry_path<F: Folder>(alloc: Global, folder: &mut F, operand: &str) -> Result<ModulePath, Stop>
-    ensures gives { Gives (λ m path. entries.module_path (entry_target m (Some operand.now)) ≡ Some path)
+/// The path of the entry that an operand names: the target of `./` and the operand, if that is a module.
+pub(crate) fn entry_path<F: Folder>(
+    alloc: Global,
+    folder: &mut F,
+    operand: &str,
+) -> Result<ModulePath, Stop>
+    ensures gives { Gives (λ m path. entries.entry_path operand.now m ≡ Some path)
         (IsRefusal operand.now) (F.files folder.old) (F.faults folder.old) (F.faults folder.new) result }
     ensures same { F.files folder.new ≡ F.files folder.old }
     ensures later { F.faults folder.old ≤ F.faults folder.new }
-    ensures kept { OnOk result (F.faults folder.new ≡ F.faults folder.old) }
 {
     match entry_of(alloc, folder, Some(operand)) {
         Ok(target) => match module_path(target) {
@@ -45,25 +50,86 @@ fn entry_path<F: Folder>(alloc: Global, folder: &mut F, operand: &str) -> Result
     }
 }
 
-/// Reads the entry that an operand names: the module that is the target of `./` and the operand.
-pub(crate) fn source_of<F: Folder>(
-    alloc: Global,
-    folder: &mut F,
-    operand: &str,
-) -> Result<Source, Stop>
-    ensures gives { Gives (λ m source. entries.entry_in operand.now m ≡ Some (record { path = source.path; bytes = source.bytes.items }))
-        (IsRefusal operand.now) (F.files folder.old) (F.faults folder.old) (F.faults folder.new) result }
+// The bytes of the file at a path, none where there is no file.
+fn bytes_of<F: Folder>(alloc: Global, folder: &mut F, path: &ModulePath) -> Result<Vec<u8>, Stop>
+    ensures gives { Gives (λ m bytes. bytes.items ≡ bytes_at m path.now)
+        (λ m owed. ⊥) (F.files folder.old) (F.faults folder.old) (F.faults folder.new) result }
     ensures same { F.files folder.new ≡ F.files folder.old }
     ensures later { F.faults folder.old ≤ F.faults folder.new }
 {
-    let path = entry_path(alloc, folder, operand)?;
-    match folder.read(alloc, &path) {
+    match folder.read(alloc, path) {
+        Ok(Some(bytes)) => Ok(bytes),
+        Ok(None) => Ok(Vec::new(alloc)),
         Err(ReadFailed::Failed) => Err(Stop::ReadFault),
         Err(ReadFailed::OutOfMemory) => Err(Stop::OutOfMemory),
-        Ok(None) => Ok(Source {
-            path,
-            bytes: Vec::new(alloc),
-        }),
-        Ok(Some(bytes)) => Ok(Source { path, bytes }),
     }
+}
+
+// What a module means for the run that is one too many.
+fn too_many(modules: u32, bytes: u64) -> Stop
+    ensures { result ≡ Stop.Refused (Refusal.TooMany modules bytes) None }
+{
+    Stop::Refused(Refusal::TooMany { modules, bytes }, None)
+}
+
+// Reads the file at a path, unless there is no room for one more module.
+fn read_next<F: Folder>(
+    alloc: Global,
+    folder: &mut F,
+    size: &mut Size,
+    path: ModulePath,
+) -> Result<Source, Stop>
+    requires modules { size.old.modules ≤ 16384 }
+    requires bytes { size.old.bytes ≤ 67108864 }
+    ensures gives { Gives
+        (λ m source. (file_of source ≡ file_at m path) × ((earlier : List (List ℕ)) → size.old ≡ size_of m earlier → size.new ≡ size_of m (earlier ++ path ∷ [])))
+        (λ m owed. (earlier : List (List ℕ)) → size.old ≡ size_of m earlier → IsExcess m earlier path owed)
+        (F.files folder.old) (F.faults folder.old) (F.faults folder.new) result }
+    ensures counted { OnOk result (size.new.modules ≡ size.old.modules + 1) }
+    ensures modules { OnOk result (size.new.modules ≤ 16384) }
+    ensures bytes { OnOk result (size.new.bytes ≤ 67108864) }
+    ensures same { F.files folder.new ≡ F.files folder.old }
+    ensures later { F.faults folder.old ≤ F.faults folder.new }
+{
+    let modules = size.modules + 1;
+    if modules > MODULES {
+        return Err(too_many(modules, size.bytes));
+    }
+    let bytes = bytes_of(alloc, folder, &path)?;
+    let total = size.bytes + bytes.len() as u64;
+    if total > BYTES {
+        return Err(too_many(modules, total));
+    }
+    *size = Size {
+        modules,
+        bytes: total,
+    };
+    Ok(Source { path, bytes })
+}
+
+/// Reads the files of a round, and adds to the size of what is loaded.
+pub(crate) fn read_round<F: Folder>(
+    alloc: Global,
+    folder: &mut F,
+    size: &mut Size,
+    round: Vec<ModulePath>,
+) -> Result<Vec<Source>, Stop>
+    requires modules { size.old.modules ≤ 16384 }
+    requires bytes { size.old.bytes ≤ 67108864 }
+    ensures gives { Gives
+        (λ m sources. (map file_of sources.items ≡ map (file_at m) round.items) × ((earlier : List (List ℕ)) → size.old ≡ size_of m earlier → size.new ≡ size_of m (earlier ++ round.items)))
+        (λ m owed. (earlier : List (List ℕ)) → size.old ≡ size_of m earlier → HasExcess m earlier round.items owed)
+        (F.files folder.old) (F.faults folder.old) (F.faults folder.new) result }
+    ensures counted { OnOk result (size.new.modules ≡ size.old.modules + length round.items) }
+    ensures modules { OnOk result (size.new.modules ≤ 16384) }
+    ensures bytes { OnOk result (size.new.bytes ≤ 67108864) }
+    ensures same { F.files folder.new ≡ F.files folder.old }
+    ensures later { F.faults folder.old ≤ F.faults folder.new }
+{
+    let mut sources = Vec::new(alloc);
+    for path in round {
+        let source = read_next(alloc, folder, size, path)?;
+        sources.push(source)?;
+    }
+    Ok(sources)
 }

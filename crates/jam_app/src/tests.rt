@@ -11,10 +11,19 @@ use std::thread::Threads;
 
 // What a run is over, and what it left.
 #[derive(Drop)]
-struct Bench {
-    folder: MemFolder,
-    out: MemSink,
-    err: MemSink,
+pub(crate) struct Bench {
+    pub(crate) folder: MemFolder,
+    pub(crate) out: MemSink,
+    pub(crate) err: MemSink,
+}
+
+// No files, and an output that takes all.
+pub(crate) fn empty_bench(alloc: Global) -> Bench {
+    Bench {
+        folder: MemFolder::new(alloc),
+        out: MemSink::new(alloc),
+        err: MemSink::new(alloc),
+    }
 }
 
 // A folder with this text at this path, whose call with this number fails, and an output with this room.
@@ -32,7 +41,7 @@ fn set_up(alloc: Global, path: &str, text: &[u8], failing: u64, room: u64) -> Re
     })
 }
 
-fn ran<R: Threads + Sync, L: Ledger>(
+pub(crate) fn ran<R: Threads + Sync, L: Ledger>(
     rt: &R,
     alloc: Global,
     bench: &mut Bench,
@@ -59,7 +68,7 @@ fn ran<R: Threads + Sync, L: Ledger>(
 }
 
 // The words of a line, which stand between spaces.
-fn words_of(alloc: Global, line: &str) -> Result<Vec<Text>, Fail> {
+pub(crate) fn words_of(alloc: Global, line: &str) -> Result<Vec<Text>, Fail> {
     let mut words = Vec::new(alloc);
     for word in line.split(' ') {
         words.push(Text::of(alloc, word)?)?;
@@ -68,7 +77,14 @@ fn words_of(alloc: Global, line: &str) -> Result<Vec<Text>, Fail> {
 }
 
 // Compares what a run left: its status, the output and the line on err.
-fn compare(rt: &impl Abort, bench: &Bench, status: &Status, number: u8, out: &str, err: &str) {
+pub(crate) fn compare(
+    rt: &impl Abort,
+    bench: &Bench,
+    status: &Status,
+    number: u8,
+    out: &str,
+    err: &str,
+) {
     assert_eq!(rt; status.number(), number, "{out}{err}");
     assert_eq!(rt; bench.out.bytes(), out.as_bytes());
     assert_eq!(rt; bench.err.bytes(), err.as_bytes());
@@ -207,6 +223,53 @@ fn calls_have_edges_to_what_their_names_declare(rt: HostRuntime) -> Result<(), F
         (
             "function f() { f(); }\nfunction g() { h(); }\nfunction h() { g(); }\n",
             "index.js:1:17 -> index.js:1:1 f\nindex.js:2:17 -> index.js:3:1 h\nindex.js:3:17 -> index.js:2:1 g\n",
+        ),
+    ] {
+        let mut bench = set_up(alloc, "index.js", text.as_bytes(), 0, 99)?;
+        let words = words_of(alloc, "graph index.js")?;
+        let status = ran::<HostRuntime, Brand>(
+            &rt,
+            alloc,
+            &mut bench,
+            words.as_slice(),
+            Blank::new(1),
+        );
+        compare(&rt, &bench, &status, 0, out, "");
+    }
+    Ok(())
+}
+
+#[test]
+fn calls_have_edges_to_what_comes_to_their_callee(rt: HostRuntime) -> Result<(), Fail> {
+    let alloc = rt.alloc();
+    for (text, out) in [
+        (
+            "exports.go = function () { };\nexports.go();\n",
+            "index.js:2:11 -> index.js:1:14 go\n",
+        ),
+        (
+            "exports.f = function () { exports.g(); };\nexports.g = function () { };\n",
+            "index.js:1:36 -> index.js:2:13 g\n",
+        ),
+        (
+            "exports.forEach = function () { };\na.forEach();\n",
+            "index.js:2:10 -> index.js:1:19 forEach\n",
+        ),
+        (
+            "function f() { }\nf.call();\nf.apply();\nf.bind();\nf.go();\n",
+            "index.js:2:7 -> index.js:1:1 f\nindex.js:3:8 -> index.js:1:1 f\nindex.js:4:7 -> index.js:1:1 f\n",
+        ),
+        (
+            "var a = require(\"./a\");\na.go();\na();\nrequire(\"../b\");\nvar exports = require(\"./c\");\nexports();\n",
+            "",
+        ),
+        (
+            "function f() { var g = require(\"./g\"); g(); }\nfunction g() { }\ng();\n",
+            "index.js:3:2 -> index.js:2:1 g\n",
+        ),
+        (
+            "function require() { }\nvar a = require(\"./a\");\n",
+            "index.js:2:16 -> index.js:1:1 require\n",
         ),
     ] {
         let mut bench = set_up(alloc, "index.js", text.as_bytes(), 0, 99)?;

@@ -63,7 +63,7 @@ cut_ends text gap c n h =
           let same : gap + n - 1 ≡ gap + k = omega arith in
           let reads : get_or text (gap + n - 1) 0 ≡ get_or (take n (drop gap text)) k 0 =
           ap (λ (i : ℕ). get_or text i 0) same ∙ sym (get_or-drop gap text k 0) ∙ sym (get_or-take n (drop gap text) k 0 below) in
-          subst (λ (x : ℕ). x < 128) (sym reads) (a.ascii k (omega (arith, len)));
+          subst (λ (x : ℕ). x < 128) (sym reads) (a.last k (omega (arith, len)));
     }
 
 -- a token ends at a character's end

@@ -1,5 +1,5 @@
 -- A refusal that is handed on.
-use Rattle.std.proofs.Common.{◌≡◌, Result, Ok, Err, subst, sym}
+use Rattle.std.proofs.Common.{◌≡◌, Result, Ok, Err, IfOk, subst, sym}
 use Rattle.std.specs.Result.{IsErrAnd}
 use Rattle.js_parser.specs.Reading.{Gives}
 use Rattle.js_parser.specs.declared.fault.ParseFault.{ParseFault}
@@ -14,3 +14,8 @@ pub exit : {X Y : Type 0} (result : Result Y ParseFault) (e : ParseFault) (x : X
     → Gives {X = X} (Err e) x P → Gives result y Q
 exit (Ok z) e x y P Q h g = absurd h
 exit (Err d) e x y P Q h g = handed_on x y P Q d (subst (λ (f : ParseFault). Gives (Err f) x P) (sym h) g)
+
+-- what follows of whatever is read
+pub ok_map : {X : Type 0} {P Q : X → Type 0} (result : Result X ParseFault) → ((x : X) → P x → Q x) → IfOk result P → IfOk result Q
+ok_map (Ok x) f h = f x h
+ok_map (Err e) f h = h

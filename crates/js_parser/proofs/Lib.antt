@@ -7,5 +7,7 @@ pub mod ExitLemmas
 pub mod PlaceLemmas
 pub mod AheadLemmas
 pub mod ListLemmas
+pub mod ViewLemmas
+pub mod ItemLemmas
 pub mod RuleLemmas
 pub mod WholeLemmas

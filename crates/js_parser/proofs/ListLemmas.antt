@@ -1,15 +1,11 @@
 -- How a list is read, item by item.
-use Rattle.std.proofs.Common.{◌≡◌, ℕ, ◌≤◌, max, List, [], ◌∷◌, ◌++◌, refl, sym, ap, ◌∙◌, subst, arith, append_assoc, Err}
+use Rattle.std.proofs.Common.{◌≡◌, ℕ, ◌≤◌, max, List, [], ◌∷◌, ◌++◌, refl, sym, ap, ◌∙◌, subst, arith, append-nil, append_assoc, Err}
 use Rattle.js_tree.specs.Lexing.{Place}
 use Rattle.js_tree.specs.Spelling.{Piece, Onto, each_of, tallest_of}
 use Rattle.js_parser.proofs.ExitLemmas.{handed_on}
-use Rattle.js_parser.proofs.PlaceLemmas.{passes_none, passes_on}
+use Rattle.js_parser.proofs.PlaceLemmas.{passes_on}
 use Rattle.js_parser.specs.Reading.{Reads, Read, Gives, Progress, Passes}
 use Rattle.js_parser.specs.declared.fault.ParseFault.{ParseFault}
-
-append-nil : {X : Type 0} (xs : List X) → xs ++ [] ≡ xs
-append-nil [] = refl
-append-nil {X} (x ∷ xs) = ap (λ (ys : List X). x ∷ ys) (append-nil xs)
 
 pub tallest-push : {X : Type 0} (height : X → ℕ) (xs : List X) (x : X) → tallest_of height (xs ++ x ∷ []) ≡ max (tallest_of height xs) (height x)
 tallest-push height [] x = omega arith
@@ -19,9 +15,6 @@ module _ {X : Type 0} (line : X → Onto) (height : X → ℕ) (Closes : List Pi
   each-push : (xs : List X) (x : X) (rest : List Piece) → each_of line (xs ++ x ∷ []) rest ≡ each_of line xs (line x rest)
   each-push [] x rest = refl
   each-push (y ∷ ys) x rest = ap (line y) (each-push ys x rest)
-
-  pub begun : (p : Place) → Progress line height Closes room p [] p
-  begun p = record { found = λ rest r. r; tall = omega arith; only = λ xs rest r h c. (xs, refl, r, h); passes = passes_none p }
 
   pub one_more : (p m n : Place) (body : List X) (x : X) → Progress line height Closes room p body m → Read m (line x) n → height x ≤ room → Passes m n
       → ((y : X) (rest : List Piece) → Reads m (line y rest) → height y ≤ room → Stops y rest → (x ≡ y) × Reads n rest)

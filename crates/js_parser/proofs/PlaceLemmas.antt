@@ -3,7 +3,7 @@ use Rattle.std.proofs.Common.{◌≡◌, ℕ, ◌+◌, List, [], ◌∷◌, ◌+
 use Rattle.std.specs.Result.{IsErrAnd}
 use Rattle.js_tree.specs.Lexing.{Place, LexesTo, Next, Longest, IsTrivia}
 use Rattle.js_tree.specs.declared.token.Token.{Token}
-use Rattle.js_parser.specs.Reading.{Passes, Refuses, Moves}
+use Rattle.js_parser.specs.Reading.{Passes, Refuses, RefusesNext, Moves}
 use Rattle.js_parser.specs.declared.fault.ParseFault.{ParseFault}
 use Rattle.js_parser.specs.declared.fault.ParseFault.TheVariants as fault
 
@@ -39,14 +39,16 @@ moved p m k e (Ok y) a s h = absurd h
 moved p m k e (Err d) a s h = refuses_on p m d a (subst (Refuses m) (sym h) s)
 
 -- a refusal at the place itself
-pub refused_here : (left bytes : List ℕ) (at gap : ℕ) (now : Place) → bytes ≡ left → ◌≡◌ {A = Place} (record { left = left; at = at }) now
-    → Longest IsTrivia bytes gap → Refuses now (fault.NotInProfile (at + gap))
-refused_here left bytes at gap now same is long =
-    subst (λ (q : Place). Refuses q (fault.NotInProfile (at + gap))) is (record {
-      tokens = [];
-      reached = record { left = left; at = at };
-      gap = gap;
-      lexes = refl;
-      trivia = subst (λ (t : List ℕ). Longest IsTrivia t gap) same long;
-      place = refl;
-    })
+pub refused_next : (left bytes : List ℕ) (at gap : ℕ) (now : Place) → bytes ≡ left → ◌≡◌ {A = Place} (record { left = left; at = at }) now
+    → Longest IsTrivia bytes gap → RefusesNext now (fault.NotInProfile (at + gap))
+refused_next left bytes at gap now same is long =
+    subst (λ (q : Place). RefusesNext q (fault.NotInProfile (at + gap))) is (gap, subst (λ (t : List ℕ). Longest IsTrivia t gap) same long, refl)
+
+-- the place itself is one that no token leads to
+pub refused_here : (p : Place) (e : ParseFault) → RefusesNext p e → Refuses p e
+refused_here p e r = subst (Refuses p) (sym r.2) (record { tokens = []; reached = p; gap = r.0; lexes = refl; trivia = r.1; place = refl })
+
+-- what is read further on, some tokens further
+pub moves_on : {Y : Type 0} (p m n : Place) (result : Result Y ParseFault) → Passes p m → Moves m n result → Moves p n result
+moves_on p m n (Ok y) a s = passes_on p m n a s
+moves_on p m n (Err e) a s = refuses_on p m e a s

@@ -1,4 +1,5 @@
 pub mod Scanning
 pub mod Reading
+pub mod Heads
 pub mod Nodes
 pub mod Answers

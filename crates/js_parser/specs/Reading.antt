@@ -81,6 +81,10 @@ Refuses p (fault.NotInProfile at) = IsStop p at
 Refuses p fault.OutOfMemory = Unit {0}
 Refuses p (fault.TooLarge n) = ⊥
 
+-- the fault is the refusal of the next token at p: its offset is behind trivia as long as it can be
+abbrev pub RefusesNext : Place → ParseFault → Type 0
+RefusesNext p e = (gap : ℕ) × Longest IsTrivia p.left gap × (e ≡ fault.NotInProfile (p.at + gap))
+
 -- some tokens were passed, or the text is refused after some tokens
 abbrev pub Moves : {X : Type 0} → Place → Place → Result X ParseFault → Type 0
 Moves p m (Ok x) = Passes p m

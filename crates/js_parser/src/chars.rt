@@ -1,4 +1,4 @@
-//! The characters of the grammar (ECMA-262, 11.2, 11.3 and 11.6).
+//! The characters of the grammar (ECMA-262, 11.2, 11.3 and 11.6 to 11.8).
 ghost use Rattle.std.specs.Prelude.{◌≡◌};
 ghost use Rattle.js_tree.specs.Characters as spec;
 
@@ -34,5 +34,19 @@ pub fn is_part(c: u8) -> bool
 pub fn is_mark(c: u8) -> bool
     ensures { result ≡ spec.is_mark c }
 {
-    c == b'(' || c == b')' || c == b'{' || c == b'}' || c == b';'
+    c == b'(' || c == b')' || c == b'.' || c == b';' || c == b'=' || c == b'{' || c == b'}'
+}
+
+/// Whether a string begins with the byte.
+pub fn is_quote(c: u8) -> bool
+    ensures { result ≡ spec.is_quote c }
+{
+    c == b'"' || c == b'\''
+}
+
+/// Whether the byte may stand in a string with this quote: no line end, not the quote, and no `\`.
+pub fn is_inner(quote: u8, c: u8) -> bool
+    ensures { result ≡ spec.is_inner quote c }
+{
+    !(is_line_end(c) || c == quote || c == b'\\')
 }

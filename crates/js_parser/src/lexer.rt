@@ -3,7 +3,7 @@ ghost use Rattle.std.specs.Prelude.{◌≡◌, ◌<◌, ◌^◌, ◌↔◌, IsTr
 ghost use Rattle.js_tree.specs.declared.token.Token.{Token};
 ghost use Rattle.js_tree.specs.Kinds.{Fits};
 ghost use Rattle.js_tree.specs.Lexing.{Next, IsTrivia, start_of};
-ghost use Rattle.js_parser.specs.Reading.{OnlyRead, Any, Anywhere, Sees, Moves, Refuses, form_line};
+ghost use Rattle.js_parser.specs.Reading.{OnlyRead, Any, Anywhere, Sees, Moves, Refuses, RefusesNext, form_line};
 
 use crate::fault::ParseFault;
 use crate::scan::{has_line_end, next_token, trivia_len};
@@ -48,7 +48,8 @@ impl<'t> Lexer<'t> {
 
     /// The refusal of the next token: its place is where the token begins, or where none does.
     pub fn refusal(&self) -> ParseFault
-        ensures { Refuses self.now result }
+        ensures next { RefusesNext self.now result }
+        ensures refuses { Refuses self.now result }
     {
         ParseFault::NotInProfile {
             at: self.at + trivia_len(self.left.as_bytes()) as u32,

@@ -1,12 +1,12 @@
 //! The token at the front of a text (ECMA-262, clause 11).
-ghost use Rattle.std.specs.Prelude.{◌≡◌, ◌<◌, ℕ, length, slice_index, take, IfSome, Some, true};
+ghost use Rattle.std.specs.Prelude.{◌≡◌, ◌<◌, ◌≤◌, ℕ, length, slice_index, take, IfSome, Some, None, true};
 ghost use Rattle.std.specs.List.{list_any};
 ghost use Rattle.js_tree.specs.declared.token.TokenClass.{TokenClass};
 ghost use Rattle.js_tree.specs.Characters as spec;
-ghost use Rattle.js_tree.specs.Lexing.{Longest, IsTrivia, IsIdentifier, IsCut, Stands};
+ghost use Rattle.js_tree.specs.Lexing.{Longest, IsTrivia, IsIdentifier, IsString, IsCut, Stands};
 ghost use Rattle.js_parser.specs.Scanning.{front_of, cut_of, IsFront, IsCutAs};
 
-use crate::chars::{is_blank, is_line_end, is_mark, is_part, is_start};
+use crate::chars::{is_blank, is_inner, is_line_end, is_mark, is_part, is_quote, is_start};
 use crate::words::place_of;
 use js_tree::{TokenClass, kind};
 
@@ -65,6 +65,64 @@ fn identifier_len(text: &[u8]) -> usize
     n
 }
 
+/// How many bytes the string has that the text begins with, where it is closed.
+fn string_len(text: &[u8]) -> Option<usize>
+    requires some { 0 < length text.now }
+    requires begin { spec.is_quote (slice_index text.now 0) ≡ true }
+    ensures found { IfSome result (λ n. Longest IsString text.now n) }
+    ensures none { result ≡ None → (n : ℕ) → n ≤ length text.now → IsString (take n text.now) → ⊥ }
+{
+    let quote = text[0];
+    let mut n = 1;
+    while n < text.len() && is_inner(quote, text[n]) {
+        n += 1;
+    }
+    if n < text.len() && text[n] == quote {
+        Some(n + 1)
+    } else {
+        None
+    }
+}
+
+/// The string at the front of the text.
+fn string_at_front(text: &[u8]) -> Option<Front>
+    requires some { 0 < length text.now }
+    requires begin { spec.is_quote (slice_index text.now 0) ≡ true }
+    ensures found { IfSome result (λ f. IsFront text.now f) }
+    ensures only { (c : TokenClass) (n : ℕ) → Stands c text.now n → result ≡ Some (front_of text.now c n) }
+{
+    match string_len(text) {
+        Some(len) => Some(Front {
+            class: TokenClass::Str,
+            kind: kind::STRING,
+            len,
+        }),
+        None => None,
+    }
+}
+
+/// The name or word at the front of the text.
+fn word_at_front(text: &[u8]) -> Option<Front>
+    requires some { 0 < length text.now }
+    requires start { spec.is_start (slice_index text.now 0) ≡ true }
+    ensures found { IfSome result (λ f. IsFront text.now f) }
+    ensures only { (c : TokenClass) (n : ℕ) → Stands c text.now n → result ≡ Some (front_of text.now c n) }
+{
+    let len = identifier_len(text);
+    match place_of(&text[..len]) {
+        Some(place) => Some(Front {
+            class: TokenClass::Word,
+            kind: kind::FIRST_WORD + place as u8,
+            len,
+        }),
+        None => Some(Front {
+            class: TokenClass::Name,
+            kind: kind::NAME,
+            len,
+        }),
+    }
+}
+
 /// The token at the front of the text.
 fn at_front(text: &[u8]) -> Option<Front>
     ensures found { IfSome result (λ f. IsFront text.now f) }
@@ -80,21 +138,11 @@ fn at_front(text: &[u8]) -> Option<Front>
             len: 1,
         });
     }
+    if is_quote(text[0]) {
+        return string_at_front(text);
+    }
     if is_start(text[0]) {
-        let len = identifier_len(text);
-        let place = place_of(&text[..len]);
-        if place < 37 {
-            return Some(Front {
-                class: TokenClass::Word,
-                kind: kind::FIRST_WORD + place as u8,
-                len,
-            });
-        }
-        return Some(Front {
-            class: TokenClass::Name,
-            kind: kind::NAME,
-            len,
-        });
+        return word_at_front(text);
     }
     None
 }

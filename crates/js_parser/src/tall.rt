@@ -1,6 +1,6 @@
 //! Nodes with their heights.
 
-/// A node and its height: how many statements and expressions stand on the longest way down from it, itself among them.
+/// A node and its height: how many statements, expressions and patterns stand on the longest way down from it, itself among them.
 #[derive(Drop)]
 pub struct Tall<T> {
     /// The node.

@@ -1,5 +1,5 @@
 //! The table of words, which are no names (ECMA-262, 11.6.2).
-ghost use Rattle.std.specs.Prelude.{◌≡◌, map};
+ghost use Rattle.std.specs.Prelude.{◌≡◌, map, None, IfSome, true, false};
 ghost use Rattle.std.specs.Str.{bytes_eq};
 ghost use Rattle.js_tree.specs.Lexing as spec;
 
@@ -64,9 +64,15 @@ fn place_in(mut list: &[&[u8]], text: &[u8]) -> usize
     place
 }
 
-/// The place of the text in the table, from 0, or 37 where it isn't in it.
-pub fn place_of(text: &[u8]) -> usize
-    ensures { result ≡ spec.place_in spec.words text.now }
+/// The place of the text in the table, from 0, where it is a word.
+pub fn place_of(text: &[u8]) -> Option<usize>
+    ensures found { IfSome result (λ place. (spec.is_word text.now ≡ true) × (place ≡ spec.place_in spec.words text.now)) }
+    ensures none { result ≡ None → spec.is_word text.now ≡ false }
 {
-    place_in(&WORDS, text)
+    let place = place_in(&WORDS, text);
+    if place < WORDS.len() {
+        Some(place)
+    } else {
+        None
+    }
 }

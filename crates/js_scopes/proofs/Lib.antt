@@ -1,8 +1,7 @@
-pub mod Laws
-pub mod Members
-pub mod UseLaws
-pub mod UseLemmas
-pub mod Ascent
-pub mod Meanings
-pub mod Placed
+pub mod Around
 pub mod Counts
+pub mod Declared
+pub mod Kept
+pub mod Laws
+pub mod Merging
+pub mod Steps

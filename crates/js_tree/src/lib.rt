@@ -8,4 +8,6 @@ mod tree;
 
 pub use form::Form;
 pub use token::{Token, TokenClass};
-pub use tree::{Arguments, Block, Expr, Function, Params, Stmt, Tail, Tree};
+pub use tree::{
+    Arguments, Block, Expr, Function, Init, Listed, Params, Pattern, Slot, Stmt, Tail, Tree,
+};

@@ -1,4 +1,4 @@
-use Rattle.jam_app.proofs.Refusing.{no_module}
+use Rattle.jam_app.proofs.Causes.{no_module}
 use Rattle.jam_app.proofs.source.entry_path.Goals as goal
 
 pub returns-in-None-clause-gives : goal.returns-in-None-clause-gives

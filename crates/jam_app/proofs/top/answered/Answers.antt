@@ -1,4 +1,4 @@
-use Rattle.jam_app.proofs.Refusing.{refuses_none}
+use Rattle.jam_app.proofs.Causes.{refuses_none}
 use Rattle.jam_app.proofs.top.answered.Goals as goal
 
 pub returns-in-Ok-clause-refuses_always : goal.returns-in-Ok-clause-refuses_always

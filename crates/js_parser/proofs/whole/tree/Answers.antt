@@ -34,4 +34,4 @@ returns-else-is_at_end-clause-only c tree s =
 
 pub returns-else-is_at_end-clause-placed : goal.returns-else-is_at_end-clause-placed
 returns-else-is_at_end-clause-placed c =
-    refuses_on _ _ c.refusal.result (subst (λ (p : Place). Passes p c.stmts.new.lexer) c.new-lexer.ensures c.in_ok-body.ensures.moves) c.refusal.ensures
+    refuses_on _ _ c.refusal.result (subst (λ (p : Place). Passes p c.stmts.new.lexer) c.new-lexer.ensures c.in_ok-body.ensures.moves) c.refusal.ensures.refuses

@@ -1,6 +1,6 @@
-use Rattle.std.proofs.Common.{refl, sym, ap, ◌∙◌, ◌+◌, ◌-◌, List, subst, arith}
+use Rattle.std.proofs.Common.{true, refl, sym, ap, ◌∙◌, ◌+◌, ◌-◌, List, subst, arith}
 use Rattle.js_tree.proofs.SpellingLemmas.{stmt_height_some, at-Fun}
-use Rattle.js_tree.specs.Spelling.{Piece, Seen, stmt}
+use Rattle.js_tree.specs.Spelling.{Piece, Seen, is_declared, stmt}
 use Rattle.js_tree.specs.Spelling as spec
 use Rattle.js_tree.specs.declared.tree.Function.{Function}
 use Rattle.js_tree.specs.declared.tree.Stmt.{Stmt}
@@ -16,8 +16,8 @@ use Rattle.js_parser.proofs.grammar.Grammar.declaration.Goals as goal
 abbrev tall : Function → Tall Function
 tall f = record { node = f; height = (spec.function f).height }
 
-function_at : (p : _) (x : Tall Stmt) (rest : List Piece) (room : _) (v : FunView p x.node rest) → StmtAt room x → FunctionAt (room - 1) (tall v.function)
-function_at p x rest room v at = record { is_named = v.is_named; height = refl; fits = omega (arith, v.height, at.height, at.fits) }
+function_at : (p : _) (x : Tall Stmt) (rest : List Piece) (room : _) (v : FunView p x.node rest) → StmtAt room x → FunctionAt true (room - 1) (tall v.function)
+function_at p x rest room v at = record { role = v.role; height = refl; fits = omega (arith, v.height, at.height, at.fits) }
 
 pub returns-then-room-eq0-clause-only : goal.returns-then-room-eq0-clause-only
 returns-then-room-eq0-clause-only g c x rest r at _ = absurd (omega (arith, at.height, stmt_height_some x.node, at.fits, c.if-room-eq0.true))
@@ -43,6 +43,6 @@ pub returns-clause-found : goal.returns-clause-found
 returns-clause-found g c =
     let w = c.in_ok-node.ensures.found.1 in
     let s = ap (λ (f : Function). stmt (statement.Fun f)) c.in_ok-function.ensures ∙ at-Fun c.in_ok-node.field-0.node in (
-      λ rest r. subst (λ (t : Seen). Reads c.args.lexer.now (t.line rest)) (sym s) (w.is_named, c.in_ok-node.ensures.found.0 rest r),
+      λ rest r. subst (λ (t : Seen). Reads c.args.lexer.now (t.line rest)) (sym s) (ap is_declared w.role, c.in_ok-node.ensures.found.0 rest r),
       record { height = ap (λ n. n + 1) w.height ∙ sym (ap (λ (t : Seen). t.height) s); fits = omega (arith, w.fits, c.if-room-eq0.false) },
     )

@@ -1,0 +1,8 @@
+use Rattle.std.proofs.Common.{◌≡◌, ◌++◌, drop, map}
+use Rattle.std.specs.Prelude.{flat_map}
+use Rattle.std.specs.List.{enumerate_from}
+use Rattle.composer.specs.Application.{flow_of, of_each}
+use Rattle.composer.proofs.build.all_flows.Given as goal
+
+abbrev pub invariant-loop-m : goal.invariant-loop-m
+invariant-loop-m l = l.out.items ++ flat_map (λ (m, c). map (flow_of m) c.flows) (enumerate_from l.m (drop l.m l.modules)) ≡ of_each l.modules (λ m c. map (flow_of m) c.flows)

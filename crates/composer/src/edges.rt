@@ -1,0 +1,158 @@
+//! The call edges of an application whose system is solved.
+ghost use Rattle.std.specs.Prelude.{◌≡◌, ◌++◌, OnOk, flat_map};
+ghost use Rattle.composer.specs.CallEdges as edges;
+ghost use Rattle.composer.specs.Numbers.{value_at};
+ghost use Rattle.composer.specs.Steps.{inputs};
+
+use crate::application::{Link, ModuleVertex, Value};
+use crate::sets::Sets;
+use crate::system::{CallSite, System};
+use flow_rules::{Constraints, Require};
+use jam_base::{Edge, FunctionRef, OutOfMemory};
+use js_scopes::SiteInfo;
+use std::alloc::AllocError;
+
+/// Adds the edges of the requires that have a link.
+pub(crate) fn push_links(
+    out: &mut Vec<Edge>,
+    modules: &[Constraints],
+    links: &[Link],
+) -> Result<(), OutOfMemory>
+    ensures { OnOk result (out.new.items ≡ out.old.items ++ flat_map (edges.link_edges modules.now) links.now) }
+{
+    for link in links {
+        push_link(out, modules, link)?;
+    }
+    Ok(())
+}
+
+fn push_link(out: &mut Vec<Edge>, modules: &[Constraints], link: &Link) -> Result<(), OutOfMemory>
+    ensures { OnOk result (out.new.items ≡ out.old.items ++ edges.link_edges modules.now link.now) }
+{
+    match modules.get(link.module as usize) {
+        Some(constraints) => push_requires(out, link, constraints.requires_()),
+        None => Ok(()),
+    }
+}
+
+// The edges of the link from these requires.
+fn push_requires(out: &mut Vec<Edge>, link: &Link, requires_: &[Require]) -> Result<(), OutOfMemory>
+    ensures { OnOk result (out.new.items ≡ out.old.items ++ flat_map (edges.require_edges link.now) requires_.now) }
+{
+    for one in requires_ {
+        if one.offset == link.offset {
+            out.push(Edge {
+                caller: FunctionRef {
+                    module: link.module,
+                    function: one.holder,
+                },
+                offset: link.offset,
+                callee: FunctionRef {
+                    module: link.target,
+                    function: 0,
+                },
+            })?;
+        }
+    }
+    Ok(())
+}
+
+/// Adds the edges of a site of module m, whose vertices have these numbers.
+pub(crate) fn push_site(
+    out: &mut Vec<Edge>,
+    system: &System<ModuleVertex, Value>,
+    sets: &Sets,
+    m: u32,
+    site: &SiteInfo,
+    numbers: &CallSite<u32>,
+) -> Result<(), OutOfMemory>
+    ensures { OnOk result (out.new.items ≡ out.old.items ++ edges.site_edges system.now sets.now m site.now numbers.now) }
+{
+    for value in sets.of(numbers.callee) {
+        push_called(
+            out,
+            system,
+            sets,
+            m,
+            site,
+            numbers,
+            value_at(system, *value),
+        )?;
+    }
+    Ok(())
+}
+
+fn push_called(
+    out: &mut Vec<Edge>,
+    system: &System<ModuleVertex, Value>,
+    sets: &Sets,
+    m: u32,
+    site: &SiteInfo,
+    numbers: &CallSite<u32>,
+    value: Value,
+) -> Result<(), OutOfMemory>
+    ensures { OnOk result (out.new.items ≡ out.old.items ++ edges.called_edges system.now sets.now m site.now numbers.now value) }
+{
+    match value {
+        Value::Fun(_) => push_edge(out, m, site, value),
+        Value::Native => push_inputs(out, system, sets, m, site, numbers),
+    }
+}
+
+fn push_inputs(
+    out: &mut Vec<Edge>,
+    system: &System<ModuleVertex, Value>,
+    sets: &Sets,
+    m: u32,
+    site: &SiteInfo,
+    numbers: &CallSite<u32>,
+) -> Result<(), OutOfMemory>
+    ensures { OnOk result (out.new.items ≡ out.old.items ++ flat_map (edges.input_edges system.now sets.now m site.now) (inputs numbers.now)) }
+{
+    for input in numbers.args.as_slice() {
+        push_input(out, system, sets, m, site, *input)?;
+    }
+    push_input(out, system, sets, m, site, numbers.more)
+}
+
+fn push_input(
+    out: &mut Vec<Edge>,
+    system: &System<ModuleVertex, Value>,
+    sets: &Sets,
+    m: u32,
+    site: &SiteInfo,
+    input: u32,
+) -> Result<(), OutOfMemory>
+    ensures { OnOk result (out.new.items ≡ out.old.items ++ edges.input_edges system.now sets.now m site.now input) }
+{
+    for value in sets.of(input) {
+        push_edge(out, m, site, value_at(system, *value))?;
+    }
+    Ok(())
+}
+
+fn push_edge(out: &mut Vec<Edge>, m: u32, site: &SiteInfo, value: Value) -> Result<(), OutOfMemory>
+    ensures { OnOk result (out.new.items ≡ out.old.items ++ edges.edges_to m site.now value) }
+{
+    if let Value::Fun(callee) = value {
+        out.push(Edge {
+            caller: FunctionRef {
+                module: m,
+                function: site.holder,
+            },
+            offset: site.offset,
+            callee,
+        })?;
+    }
+    Ok(())
+}
+
+// The value of a number.
+fn value_at(system: &System<ModuleVertex, Value>, number: u32) -> Value
+    ensures { result ≡ value_at system.now number }
+{
+    match system.functions.as_slice().get(number as usize) {
+        Some(callable) => callable.value,
+        None => Value::Native,
+    }
+}

@@ -1,0 +1,66 @@
+-- Stops and their causes, over a folder that may tell its files.
+use Rattle.std.proofs.Common.{◌≡◌, ℕ, ◌≤◌, List, ap, sym, subst, ◌∙◌, arith, Option, Some, None, Result, Ok, Err}
+use Rattle.std.specs.Result.{IfErr, IsErrAnd}
+use Rattle.std.specs.Option.{IfSome}
+use Rattle.jam_base.specs.Causes.{Rose}
+use Rattle.jam_base.specs.Files.{Files}
+use Rattle.node_resolve.specs.declared.target.Target.{Target}
+use Rattle.node_resolve.specs.Targets.{entry_target}
+use Rattle.jam_app.specs.declared.refusal.Refusal.{Refusal}
+use Rattle.jam_app.specs.declared.refusal.Refusal.TheVariants as refusal
+use Rattle.jam_app.specs.declared.stop.Stop.{Stop}
+use Rattle.jam_app.specs.declared.stop.Stop.TheVariants.{ReadFault, OutOfMemory, Refused}
+use Rattle.jam_app.specs.Entries.{module_path}
+use Rattle.jam_app.specs.Refusals.{IsRefusal, no_entry}
+use Rattle.jam_app.specs.declared.status.Status.{Status}
+use Rattle.jam_app.specs.Outcomes.{RefusesAlways}
+use Rattle.jam_app.specs.Work.{Gives, HasStopCause, IsOwed}
+
+-- what follows from one fact, or from two, of the files that a folder may tell
+pub told : {P Q : Files → Type 0} (files : Option Files) → IfSome files P → ((m : Files) → P m → Q m) → IfSome files Q
+told None p f = tt
+told (Some m) p f = f m p
+
+pub both_told : {P Q R : Files → Type 0} (files : Option Files) → IfSome files P → IfSome files Q → ((m : Files) → P m → Q m → R m) → IfSome files R
+both_told None p q f = tt
+both_told (Some m) p q f = f m p q
+
+pub any_files : {P : Files → Type 0} (files : Option Files) → ((m : Files) → P m) → IfSome files P
+any_files None f = tt
+any_files (Some m) f = f m
+
+-- a count that rose after another call rose
+pub rose_later : (before mid now : ℕ) → before ≤ mid → Rose mid now → Rose before now
+rose_later before mid now later rose = omega (arith, later, rose)
+
+-- a stop after an earlier call has its cause over both
+pub stop_after : (P Q : Files → Refusal → Type 0) (first files : Option Files) (before mid now : ℕ) (stop : Stop) → files ≡ first → before ≤ mid
+    → IfSome first (λ m. (owed : Refusal) → P m owed → Q m owed) → HasStopCause P files mid now stop → HasStopCause Q first before now stop
+stop_after P Q first files before mid now stop same later means cause =
+    by stop (subst (λ (fs : Option Files). HasStopCause P fs mid now stop) same cause)
+  where
+    by : (s : Stop) → HasStopCause P first mid now s → HasStopCause Q first before now s
+    by ReadFault c = rose_later before mid now later c
+    by OutOfMemory c = tt
+    by (Refused owed place) c = both_told first means c (λ m f p. f owed p)
+
+-- an operand whose target isn't a module
+pub no_module : (operand : List ℕ) (files : Option Files) (found : Target) (path : Option (List ℕ)) → IfSome files (λ m. found ≡ entry_target m (Some operand))
+    → path ≡ module_path found → path ≡ None → IfSome files (λ m. IsRefusal operand m refusal.NoEntry)
+no_module operand files found path is named none = told files is (λ m e. no_entry (ap module_path (sym e) ∙ sym named ∙ none))
+
+-- a stop that is handed on
+pub handed_on : {X : Type 0} (owed : Files → X → Type 0) (P Q : Files → Refusal → Type 0) (first files : Option Files) (before mid now : ℕ) (stop : Stop) (result : Result X Stop)
+    → IsErrAnd result (λ e. e ≡ stop) → files ≡ first → before ≤ mid → IfSome first (λ m. (r : Refusal) → P m r → Q m r) → HasStopCause P files mid now stop → Gives owed Q first before now result
+handed_on owed P Q first files before mid now stop (Err e) is same later means cause =
+    subst (HasStopCause Q first before now) (sym is) (stop_after P Q first files before mid now stop same later means cause)
+handed_on owed P Q first files before mid now stop (Ok x) is same later means cause = absurd is
+
+-- where a text is owed, no refusal is, so any status will do
+pub refuses_none : (status : Status) (operand text : List ℕ) (files : Option Files) → IfSome files (λ m. IsOwed operand m text) → IfSome files (λ m. RefusesAlways status operand m)
+refuses_none status operand text files is = told files is (λ m owed refusal refused. absurd (owed.unrefused refusal refused))
+
+-- what holds of a stop that is handed on
+pub stop_handed : {X : Type 0} (P : Stop → Type 0) (stop : Stop) (result : Result X Stop) → IsErrAnd result (λ e. e ≡ stop) → P stop → IfErr result P
+stop_handed P stop (Err e) is p = subst P (sym is) p
+stop_handed P stop (Ok x) is p = absurd is

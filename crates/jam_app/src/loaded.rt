@@ -1,0 +1,22 @@
+//! A module that is loaded.
+use flow_rules::Constraints;
+use jam_base::ModulePath;
+use js_tree::Tree;
+
+/// A loaded module: its path, the bytes of its file, its tree, what the tree says of its values, and where
+/// its requires lead, by their offsets.
+#[derive(Debug, Drop)]
+pub(crate) struct Loaded {
+    pub(crate) path: ModulePath,
+    pub(crate) bytes: Vec<u8>,
+    pub(crate) tree: Tree,
+    pub(crate) constraints: Constraints,
+    pub(crate) targets: Vec<Led>,
+}
+
+/// Where a require leads: the offset of its `(` in bytes, and the path of the module that is its target.
+#[derive(Debug, Drop)]
+pub(crate) struct Led {
+    pub(crate) offset: u32,
+    pub(crate) path: ModulePath,
+}

@@ -1,0 +1,37 @@
+-- What a walk knows of what stands around a node.
+use Rattle.std.specs.Prelude.{◌≡◌, ℕ, ◌<◌, List, ◌∷◌, ◌++◌, length, map, nat_lt, false}
+use Rattle.std.specs.List.{count_by}
+use Rattle.std.specs.List.Sorted.{IsNonDecreasingBy, IsNonDecreasing}
+use Rattle.js_tree.specs.declared.token.Token.{Token}
+use Rattle.js_tree.specs.declared.tree.Stmt.{Stmt}
+use Rattle.js_scopes.specs.declared.binding.BoundName.{BoundName}
+use Rattle.js_scopes.specs.declared.function.FunctionInfo.{FunctionInfo}
+use Rattle.js_scopes.specs.declared.walk.Numbers.{Numbers}
+use Rattle.js_scopes.specs.declared.walk.Surroundings.{Surroundings}
+use Rattle.js_scopes.specs.Names.{Numbering, Around, local_number}
+use Rattle.js_scopes.specs.Scopes.{Scoped, bound_name}
+use Rattle.js_scopes.specs.Walks.{in_stmts, scopes_of}
+
+-- what stands around a node
+abbrev pub around_of : Surroundings → Around
+around_of s = record { scopes = scopes_of s.scopes.now; holder = s.holder }
+
+-- the name that a function writes, and the names in it
+abbrev pub own_names : Numbering → Around → Scoped → List BoundName
+own_names n around function = map (bound_name n around) function.own_name ++ function.names n around
+
+-- the names in the body of the function with this number
+abbrev pub body_names : Numbering → Around → ℕ → List Stmt → List BoundName
+body_names n around number body = in_stmts (λ x. x.names n (record { scopes = in_stmts (λ y. y.declares false) body ∷ around.scopes; holder = number })) body
+
+-- functions and starts ascend, and there are numbers for them
+pub record AreReady (numbers : Numbers) : Type 0 where
+  pub functions : IsNonDecreasingBy (λ (f : FunctionInfo). f.start) numbers.functions.now
+  pub few_functions : length numbers.functions.now < 4294967295
+  pub starts : IsNonDecreasing numbers.starts.now
+  pub few_starts : length numbers.starts.now < 4294967296
+
+-- they give the numbers of the numbering
+pub record IsNumberedBy (n : Numbering) (numbers : Numbers) : Type 0 where
+  pub functions : n.functions ≡ numbers.functions.now
+  pub locals : (t : Token) → local_number n t ≡ count_by (λ s. nat_lt s t.start) numbers.starts.now

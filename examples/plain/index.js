@@ -1,8 +1,0 @@
-function greet() {
-  format();
-}
-
-function format() {
-}
-
-greet();

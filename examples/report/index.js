@@ -1,0 +1,7 @@
+var report = require("./lib/report");
+
+function main() {
+  report.print();
+}
+
+main();
