@@ -1,6 +1,7 @@
 //! Uses of `require`.
-ghost use Rattle.std.specs.Prelude.{◌≡◌, [], ◌∷◌, IfOk, OnOk, Some, is_some, if◌then◌else◌};
+ghost use Rattle.std.specs.Prelude.{◌≡◌, ◌-◌, [], ◌∷◌, IfNone, IfOk, OnOk, Some, drop, is_some, length, if◌then◌else◌};
 ghost use Rattle.std.specs.Option.{IfSome};
+ghost use Rattle.std.specs.Str.{IsCharBoundary};
 ghost use Rattle.js_tree.proofs.Folds.{map_tail};
 ghost use Rattle.js_scopes.specs.Scopes as scopes;
 ghost use Rattle.flow_rules.specs.Flows.{expr, call_notes, call_requires, chain_requires, first_notes, first_requires, first_string, is_module, name_flows, name_notes, arguments_flows};
@@ -224,7 +225,8 @@ fn token_value(alloc: Global, token: &Token) -> Result<Option<Text>, OutOfMemory
 // What stands between the quotes; each string token of a text has a quote at either end, so that none is
 // without it.
 fn between_quotes(text: &str) -> Option<&str>
-    ensures { IfSome result (λ x. x.now ≡ scopes.between_quotes text.now) }
+    ensures some { IfSome result (λ x. x.now ≡ scopes.between_quotes text.now) }
+    ensures none { IfNone result (IsCharBoundary text.now 1 → IsCharBoundary (drop 1 text.now) (length text.now - 2) → ⊥) }
 {
     let (_, behind) = text.split_at_checked(1)?;
     let (inner, _) = behind.split_at_checked(text.len().saturating_sub(2))?;
