@@ -262,6 +262,15 @@ fn a_declaration_hides_a_name_of_the_wrapper(rt: HostRuntime) -> Result<(), Fail
              sites 36.0 h0 a0\n\
              flows prop:exports -> callee:36:0, lit:1 -> var:0, var:0 -> recv:36:0\n",
         ),
+    ] {
+        compare(&rt, rt.alloc(), text, lines)?;
+    }
+    Ok(())
+}
+
+#[test]
+fn a_variable_beside_a_function_declares_nothing(rt: HostRuntime) -> Result<(), Fail> {
+    for (text, lines) in [
         (
             "var exports = require(\"./a\");\nfunction exports() { }\nexports();\n",
             "functions 0/0 <module>, 30/0 exports\n\

@@ -21,7 +21,8 @@ use Rattle.js_tree.specs.declared.tree.Slot.{Slot, out-Slot, roll-Slot, roll-out
 use Rattle.js_tree.specs.declared.tree.Stmt.{Stmt}
 use Rattle.js_tree.specs.declared.tree.Stmt.TheVariants as statement
 use Rattle.js_parser.proofs.CutLemmas.{no_token}
-use Rattle.js_parser.proofs.ViewLemmas.{at_line, with_name, unseen_kind, value_view, required_view}
+use Rattle.js_parser.proofs.ShapeLemmas.{at_line, with_name}
+use Rattle.js_parser.proofs.ViewLemmas.{unseen_kind, value_view, required_view}
 use Rattle.js_parser.specs.Nodes.{FunctionAt, Closes, block_line, name_line}
 use Rattle.js_parser.specs.Reading.{Reads, Sees, AllHold}
 use Rattle.js_parser.specs.declared.tall.Tall.{Tall}
