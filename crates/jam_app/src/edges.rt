@@ -166,20 +166,20 @@ fn offsets_of(alloc: Global, edges: &[Edge]) -> Result<Vec<u32>, OutOfMemory>
 fn push_calls(
     alloc: Global,
     printed: &[Printed],
-    module: &Printed,
+    caller: &Printed,
     edges: &[Edge],
     places: &[Place],
     steps: &mut Vec<PathStep>,
 ) -> Result<(), OutOfMemory>
-    requires places { map spot_of places.now ≡ map (λ (edge : Edge). spot_at module.now.text edge.offset) edges.now }
-    requires callers { All (λ edge. slice_get printed.now edge.caller.module ≡ Some module.now) edges.now }
+    requires places { map spot_of places.now ≡ map (λ (edge : Edge). spot_at caller.now.text edge.offset) edges.now }
+    requires callers { All (λ edge. slice_get printed.now edge.caller.module ≡ Some caller.now) edges.now }
     ensures { OnOk result (steps.new.items ≡ steps.old.items ++ map (edge_among printed.now) edges.now) }
 {
     for i in 0..edges.len() {
         let edge = &edges[i];
         let place = &places[i];
         let callee = function_of(alloc, printed, edge.callee)?;
-        steps.push(call_at(alloc, module, place, callee)?)?;
+        steps.push(call_at(alloc, caller, place, callee)?)?;
     }
     Ok(())
 }
@@ -187,14 +187,14 @@ fn push_calls(
 // A call at the place, as it is printed.
 fn call_at(
     alloc: Global,
-    module: &Printed,
+    caller: &Printed,
     place: &Place,
     callee: Shown,
 ) -> Result<PathStep, OutOfMemory>
-    ensures { (offset : ℕ) → spot_of place.now ≡ spot_at module.now.text offset → IfOk result (λ step. step ≡ call_in offset callee module.now) }
+    ensures { (offset : ℕ) → spot_of place.now ≡ spot_at caller.now.text offset → IfOk result (λ step. step ≡ call_in offset callee caller.now) }
 {
     Ok(PathStep {
-        path: Text::of(alloc, module.path())?,
+        path: Text::of(alloc, caller.path())?,
         line: place.line,
         column: place.column,
         callee,

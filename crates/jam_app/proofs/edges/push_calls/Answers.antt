@@ -16,7 +16,7 @@ no_place = record { offset = 0; line = 0; column = 0 }
 pub loop-i-preserved : goal.loop-i-preserved
 loop-i-preserved c =
     let printed = c.args.printed.now in
-    let m = c.args.module.now in
+    let m = c.args.caller.now in
     let i = c.loop-i.i in
     let edge : Edge = get_or c.args.edges.now i no_edge in
     let spot : spot_of (get_or c.args.places.now i no_place) ≡ spot_at m.text edge.offset =
