@@ -1,9 +1,5 @@
-pub mod CallRules
-pub mod Laws
-pub mod LawLemmas
-pub mod NodeRules
 pub mod Order
+pub mod Places
 pub mod RuleLemmas
 pub mod SortedLemmas
-pub mod TreeRules
-pub mod WalkLemmas
+pub mod ValueLemmas

@@ -1,5 +1,10 @@
+pub mod AtHand
+pub mod Calls
 pub mod Constraints
 pub mod Flows
-pub mod Gathering
+pub mod Numbered
+pub mod Places
+pub mod Requires
 pub mod Rules
+pub mod Values
 pub mod Vertices

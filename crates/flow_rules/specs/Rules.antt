@@ -1,18 +1,16 @@
 -- The rules that the lists of a module keep.
 use Rattle.std.specs.Prelude.{◌≡◌, ◌≢◌, ℕ, ◌<◌, List, [], ◌∷◌, length, All, Contains, slice_index_or}
-use Rattle.std.specs.List.{flat_map}
 use Rattle.std.specs.List.Sorted.{IsStrictlySortedBy}
-use Rattle.js_tree.specs.declared.tree.Tree.{Tree}
 use Rattle.js_scopes.specs.declared.function.FunctionInfo.{FunctionInfo}
 use Rattle.js_scopes.specs.declared.site.SiteInfo.{SiteInfo}
-use Rattle.js_scopes.specs.Scopes.{function_order, known_of, site_order, stmt}
+use Rattle.js_scopes.specs.Scopes.{function_order, site_order}
 use Rattle.flow_rules.specs.declared.module.Flow.{Flow}
 use Rattle.flow_rules.specs.declared.module.Require.{Require}
 use Rattle.flow_rules.specs.declared.vertex.Vertex.{Vertex}
 use Rattle.flow_rules.specs.declared.vertex.Vertex.TheVariants.{Prop, Elem, Global, Exports, Param, Rest, Ret, Lit, Callee, Arg, More, Recv, Res, Req, Var, Exp}
 use Rattle.flow_rules.specs.Constraints.{ModuleConstraints}
 use Rattle.flow_rules.specs.Flows.{require_order, note_order}
-use Rattle.flow_rules.specs.Vertices.{flow_order, name_of, vertex_key}
+use Rattle.flow_rules.specs.Vertices.{flow_order, vertex_key}
 
 -- 32 bits number its items, or its bytes
 abbrev pub IsShort : {X : Type 0} → List X → Type 0
@@ -106,18 +104,3 @@ pub record KeepsRules (c : ModuleConstraints) : Type 0 where
   pub sites : All (IsSite c) c.sites
   pub requires_ : All (IsRequire c) c.requires_
   pub flows : All (IsFlow c) c.flows
-
--- the call sites of a tree, in the order of the walk
-abbrev pub all_sites : Tree → List SiteInfo
-all_sites tree = flat_map (λ x. (stmt x).sites (known_of tree) 0) tree.body
-
--- calls of the tree that stand at one place have as many arguments. A text has one token at a place; a tree of its own making may have two, of
--- which one site is kept
-abbrev pub HasOneCount : Tree → Type 0
-HasOneCount tree = (s t : SiteInfo) → Contains (all_sites tree) s → Contains (all_sites tree) t → s.offset ≡ t.offset → s.part ≡ t.part → s.args ≡ t.args
-
--- 32 bits number the bytes of each text
-pub record HasShortTexts (c : ModuleConstraints) : Type 0 where
-  pub functions : All IsFunction c.functions
-  pub requires_ : All (λ r. IsShort r.spec) c.requires_
-  pub flows : All (λ f. IsShort (name_of f.from) × IsShort (name_of f.to)) c.flows

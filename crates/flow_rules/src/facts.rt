@@ -1,72 +1,94 @@
 //! What is at hand of a module.
-ghost use Rattle.std.specs.Prelude.{◌≡◌, ◌<◌, IfOk, length};
-ghost use Rattle.std.specs.List.Sorted.{IsNonDecreasingBy};
-ghost use Rattle.js_scopes.specs.declared.function.FunctionInfo.{FunctionInfo as GhostInfo};
+ghost use Rattle.std.specs.Prelude.{◌≡◌, ◌<◌, ℕ, ◌==◌, length, if◌then◌else◌, IfOk, OnOk};
 ghost use Rattle.js_scopes.specs.AtHand.{known_in};
-ghost use Rattle.flow_rules.specs.Flows.{name_vertex, token_vertex};
+ghost use Rattle.flow_rules.specs.Places.{number_in, place_or};
+ghost use Rattle.flow_rules.specs.Numbered.{place_in};
+ghost use Rattle.flow_rules.specs.Values.{name_vertex, token_vertex};
 
 use crate::Vertex;
 use jam_base::{OutOfMemory, Text};
-use js_scopes::{Binding, Bindings, FunctionInfo, WrapperName, function_number};
+use js_scopes::{Binding, Known, WrapperName};
 use js_tree::Token;
 use std::alloc::Global;
+use std::collections::BTreeMap;
 use std::marker::Model;
 
-/// What the names of a module mean, and its functions but its body.
+/// What is known of a module, and the numbers of its numbered expressions.
 #[derive(Drop)]
 pub(crate) struct Facts<'m> {
-    bindings: &'m Bindings,
-    functions: &'m [FunctionInfo],
+    pub(crate) known: &'m Known<'m>,
+    pub(crate) numbers: &'m Numbers,
 }
 
-impl<'m> Model for Facts<'m> {
-    ghost use Rattle.std.specs.Prelude.{◌<◌, length};
-    ghost use Rattle.std.specs.List.Sorted.{IsNonDecreasingBy};
-    ghost use Rattle.js_scopes.specs.declared.function.FunctionInfo.{FunctionInfo as Info};
-    ghost use Rattle.js_scopes.specs.AtHand.{AtHand};
-
-    ghost Value = { AtHand };
-
-    ghost view = { λ f. record { meanings = f.bindings.now; functions = f.functions.now } };
-
-    ghost invariant = { λ f. IsNonDecreasingBy (λ (g : Info). g.start) f.functions.now × (length f.functions.now < 4294967295) };
+/// The numbers of the numbered expressions of a module, by the offsets of tokens of their own.
+#[derive(Drop)]
+pub(crate) struct Numbers {
+    places: BTreeMap<u32, u32>,
+    count: u32,
 }
 
-impl<'m> Facts<'m> {
-    /// These facts.
-    pub(crate) fn of(bindings: &'m Bindings, functions: &'m [FunctionInfo]) -> Facts<'m>
-        requires ascending { IsNonDecreasingBy (λ (f : GhostInfo). f.start) functions.now }
-        requires few { length functions.now < 4294967295 }
-        ensures { result ≡ record { meanings = bindings.now; functions = functions.now } }
+impl Model for Numbers {
+    ghost use Rattle.flow_rules.specs.Places.{Places};
+
+    ghost Value = { Places };
+
+    ghost view = { λ n. record { entries = n.places.entries; count = n.count } };
+}
+
+impl Numbers {
+    /// Each offset by its first place in the list.
+    pub(crate) fn of(alloc: Global, numbered: Vec<u32>) -> Result<Numbers, OutOfMemory>
+        ensures { IfOk result (λ made. (offset : ℕ) → number_in made offset ≡ place_in numbered.items offset) }
     {
-        Facts {
-            bindings,
-            functions,
+        let Ok(count) = u32::try_from(numbered.len()) else {
+            return Err(OutOfMemory);
+        };
+        Ok(Numbers {
+            places: places_of(alloc, numbered)?,
+            count,
+        })
+    }
+
+    /// The number of the expression with a token of its own at the offset.
+    pub(crate) fn of_offset(&self, offset: u32) -> u32
+        ensures { result ≡ number_in self.now offset }
+    {
+        match self.places.get(&offset) {
+            Some(number) => *number,
+            None => self.count,
         }
     }
+}
 
-    /// What the name that is this token means.
-    pub(crate) fn binding(&self, token: &Token) -> Binding
-        ensures { result ≡ (known_in self.now).binding token.now.start }
-    {
-        let bindings = self.bindings;
-        bindings.of(token.start)
+// The first place of each offset.
+fn places_of(alloc: Global, mut numbered: Vec<u32>) -> Result<BTreeMap<u32, u32>, OutOfMemory>
+    requires { length numbered.items < 4294967296 }
+    ensures { IfOk result (λ made. (offset : ℕ) → place_or made.entries offset (length numbered.items) ≡ place_in numbered.items offset) }
+{
+    let mut places = BTreeMap::new(alloc);
+    while let Some(offset) = numbered.pop() {
+        put(offset, numbered.len() as u32, &mut places)?;
     }
+    Ok(places)
+}
 
-    /// The number of the function that starts at the offset.
-    pub(crate) fn number(&self, start: u32) -> u32
-        ensures { result ≡ (known_in self.now).number start }
-    {
-        let functions = self.functions;
-        function_number(functions, start)
-    }
+// Keeps the place of the offset, instead of what was kept of it.
+fn put(offset: u32, place: u32, places: &mut BTreeMap<u32, u32>) -> Result<(), OutOfMemory>
+    ensures { OnOk result ((q other : ℕ) → place_or places.new.entries q other ≡ (if offset == q then place else place_or places.old.entries q other)) }
+{
+    places.insert(offset, place)?;
+    Ok(())
+}
 
-    /// Where the values of the name that is this token stand.
-    pub(crate) fn vertex(&self, alloc: Global, token: &Token) -> Result<Option<Vertex>, OutOfMemory>
-        ensures { IfOk result (λ v. v ≡ token_vertex (known_in self.now) token.now) }
-    {
-        name_vertex(alloc, self.binding(token), &token.text)
-    }
+/// Where the values of the name that is this token stand.
+pub(crate) fn token_vertex(
+    alloc: Global,
+    known: &Known<'_>,
+    token: &Token,
+) -> Result<Option<Vertex>, OutOfMemory>
+    ensures { IfOk result (λ v. v ≡ token_vertex (known_in known.now) token.now) }
+{
+    name_vertex(alloc, known.binding(token), &token.text)
 }
 
 // Where the values of a name with this meaning stand.

@@ -1,23 +1,25 @@
 //! Where the values of a module's expressions flow.
+//!
+//! Read `extraction`, which puts a module's lists together, then what each kind of node says: `flows`
+//! with `values` and `calls`, `required`, `notes` and `numbered`; `rules` has what the lists keep. Of the
+//! specs `Flows`, `Values`, `Calls`, `Requires`, `Numbered`, `Constraints`, `Rules` and `Vertices` are
+//! promised, `AtHand` serves proofs.
 #![tactic(auto)]
 
 mod calls;
+mod extraction;
 mod facts;
-mod found;
-mod front;
-mod gather;
-mod heads;
-mod law;
+mod flows;
 mod module;
 mod module_constraints;
-mod numbers;
+mod notes;
+mod numbered;
+mod required;
 mod rules;
-mod uses;
+mod values;
 mod vertex;
-mod walk;
 
-pub use gather::constraints;
-pub use law::trees_keep_rules;
+pub use extraction::constraints;
 pub use module::{Flow, ModuleNote, NoteKind, Require};
 pub use module_constraints::Constraints;
 pub use vertex::Vertex;

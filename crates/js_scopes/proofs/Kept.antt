@@ -1,19 +1,20 @@
 -- What is kept of names.
-use Rattle.std.proofs.Common.{◌≡◌, ℕ, ◌+◌, List, [], ◌∷◌, ◌++◌, map, refl, sym, ap, ◌∙◌, Bool, nat_lt, ◌==◌, if◌then◌else◌}
+use Rattle.std.proofs.Common.{Some, ◌≡◌, ℕ, ◌+◌, List, [], ◌∷◌, ◌++◌, map, refl, sym, ap, ◌∙◌, Bool, nat_lt, ◌==◌, if◌then◌else◌}
 use Rattle.std.specs.List.{flat_map, count_by}
 use Rattle.std.specs.List.Sorted.{IsPermutation}
 use Rattle.std.proofs.lemmas.List.{map-append}
 use Rattle.js_tree.specs.declared.token.Token.{Token}
-use Rattle.js_tree.specs.declared.tree.Stmt.{Stmt}
 use Rattle.js_tree.specs.declared.tree.Tree.{Tree}
+use Rattle.js_tree.specs.Parts.{ABody}
+use Rattle.js_tree.proofs.GatherLemmas.{gathered_made}
 use Rattle.js_scopes.specs.declared.binding.Binding.{Binding}
 use Rattle.js_scopes.specs.declared.binding.Binding.TheVariants as binding
 use Rattle.js_scopes.specs.declared.binding.BoundName.{BoundName}
 use Rattle.js_scopes.specs.Names.{Scope, firsts, local_number}
-use Rattle.js_scopes.specs.Scopes.{stmt, meaning, numbering_of, module_scope}
-use Rattle.js_scopes.specs.Walks.{scope_starts, local_starts}
+use Rattle.js_scopes.specs.Scopes.{meaning, numbering_of, module_scope, own_scopes, scopes_in}
+use Rattle.js_scopes.specs.Walks.{local_starts}
+use Rattle.js_scopes.specs.Indexed.{scope_starts}
 use Rattle.js_scopes.proofs.Counts.{count_cons, one_if, count_moved}
-use Rattle.js_scopes.proofs.Declared.{tree_starts}
 
 -- what the name at the offset means among the names, or else what is given
 abbrev pub meaning_or : List BoundName → ℕ → Binding → Binding
@@ -39,9 +40,9 @@ map_flat h f (x ∷ xs) = map-append h (f x) (flat_map f xs) ∙ ap (λ ys. map 
 all_starts : (tree : Tree) → map (λ (t : Token). t.start) (numbering_of tree).locals ≡ local_starts (module_scope tree) tree
 all_starts tree =
     let start = λ (t : Token). t.start in
-    let scopes = flat_map (λ (x : Stmt). (stmt x).scopes) tree.body in
+    let scopes = scopes_in (ABody tree.body) in
     map-append start (firsts (module_scope tree)) (flat_map firsts scopes)
-    ∙ ap (λ ys. scope_starts (module_scope tree) ++ ys) (map_flat start firsts scopes ∙ tree_starts tree.body)
+    ∙ ap (λ ys. scope_starts (module_scope tree) ++ ys) (map_flat start firsts scopes ∙ gathered_made scope_starts own_scopes (λ n u. Some u) (ABody tree.body) tt)
 
 -- the sorted starts give the numbers of declared names
 pub numbered : (tree : Tree) (scope : Scope) (starts sorted : List ℕ) → scope ≡ module_scope tree → starts ≡ local_starts scope tree → IsPermutation starts sorted

@@ -1,7 +1,8 @@
 pub mod Around
 pub mod Counts
-pub mod Declared
+pub mod FirstLemmas
+pub mod GivenLemmas
 pub mod Kept
-pub mod Laws
+pub mod Layers
 pub mod Merging
 pub mod Steps

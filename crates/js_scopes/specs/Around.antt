@@ -1,28 +1,17 @@
 -- What a walk knows of what stands around a node.
-use Rattle.std.specs.Prelude.{◌≡◌, ℕ, ◌<◌, List, ◌∷◌, ◌++◌, length, map, nat_lt, false}
+use Rattle.std.specs.Prelude.{◌≡◌, ◌<◌, length, nat_lt}
 use Rattle.std.specs.List.{count_by}
 use Rattle.std.specs.List.Sorted.{IsNonDecreasingBy, IsNonDecreasing}
 use Rattle.js_tree.specs.declared.token.Token.{Token}
-use Rattle.js_tree.specs.declared.tree.Stmt.{Stmt}
-use Rattle.js_scopes.specs.declared.binding.BoundName.{BoundName}
 use Rattle.js_scopes.specs.declared.function.FunctionInfo.{FunctionInfo}
-use Rattle.js_scopes.specs.declared.walk.Numbers.{Numbers}
-use Rattle.js_scopes.specs.declared.walk.Surroundings.{Surroundings}
+use Rattle.js_scopes.specs.declared.names.Numbers.{Numbers}
+use Rattle.js_scopes.specs.declared.names.Surroundings.{Surroundings}
 use Rattle.js_scopes.specs.Names.{Numbering, Around, local_number}
-use Rattle.js_scopes.specs.Scopes.{Scoped, bound_name}
-use Rattle.js_scopes.specs.Walks.{in_stmts, scopes_of}
+use Rattle.js_scopes.specs.Walks.{scopes_of}
 
 -- what stands around a node
 abbrev pub around_of : Surroundings → Around
 around_of s = record { scopes = scopes_of s.scopes.now; holder = s.holder }
-
--- the name that a function writes, and the names in it
-abbrev pub own_names : Numbering → Around → Scoped → List BoundName
-own_names n around function = map (bound_name n around) function.own_name ++ function.names n around
-
--- the names in the body of the function with this number
-abbrev pub body_names : Numbering → Around → ℕ → List Stmt → List BoundName
-body_names n around number body = in_stmts (λ x. x.names n (record { scopes = in_stmts (λ y. y.declares false) body ∷ around.scopes; holder = number })) body
 
 -- functions and starts ascend, and there are numbers for them
 pub record AreReady (numbers : Numbers) : Type 0 where

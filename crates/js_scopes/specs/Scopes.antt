@@ -1,22 +1,23 @@
--- The functions, call sites and names of a tree, one line for each kind of node.
+-- The functions, call sites and names of a tree: what each kind of node gives by itself, and what stands around its parts.
 use Rattle.std.specs.Prelude.{ℕ, ◌-◌, ◌==◌, Bool, true, false, ◌&&◌, ◌||◌, not, List, [], ◌∷◌, ◌++◌, map, length, drop, take, Option, Some, None, is_some, if◌then◌else◌, codes}
 use Rattle.std.specs.List.{flat_map, filter}
+use Rattle.std.specs.Option.{unwrap_or}
 use Rattle.std.specs.Ordering.{nat_cmp, on, then_cmp}
 use Rattle.std.specs.Str.{bytes_eq}
 use Rattle.std.specs.declared.cmp.Ordering.{Ordering}
 use Rattle.js_tree.specs.declared.token.Token.{Token}
 use Rattle.js_tree.specs.declared.token.TokenClass.TheVariants as class
-use Rattle.js_tree.specs.declared.tree.Arguments.{Arguments}
-use Rattle.js_tree.specs.declared.tree.Expr.{Expr, fold-Expr}
+use Rattle.js_tree.specs.declared.tree.Expr.{Expr, out-Expr}
 use Rattle.js_tree.specs.declared.tree.Expr.TheOpen.{Expr-F, Function-F, Pattern-F, Stmt-F, Slot-F}
-use Rattle.js_tree.specs.declared.tree.Function.{Function, fold-Function}
-use Rattle.js_tree.specs.declared.tree.Init.{Init}
-use Rattle.js_tree.specs.declared.tree.Pattern.{Pattern, fold-Pattern}
-use Rattle.js_tree.specs.declared.tree.Slot.{Slot, fold-Slot}
-use Rattle.js_tree.specs.declared.tree.Stmt.{Stmt, fold-Stmt}
+use Rattle.js_tree.specs.declared.tree.Function.{Function, out-Function}
+use Rattle.js_tree.specs.declared.tree.Pattern.{Pattern, out-Pattern}
+use Rattle.js_tree.specs.declared.tree.Slot.{Slot, out-Slot}
+use Rattle.js_tree.specs.declared.tree.Stmt.{Stmt, out-Stmt}
 use Rattle.js_tree.specs.declared.tree.Tail.{Tail}
 use Rattle.js_tree.specs.declared.tree.Tail.TheVariants as tail
 use Rattle.js_tree.specs.declared.tree.Tree.{Tree}
+use Rattle.js_tree.specs.Folds.{ExprLayer, FunctionLayer, PatternLayer, StmtLayer}
+use Rattle.js_tree.specs.Parts.{Node, AnExpr, AFunction, APattern, AStmt, ASlot, ATail, ABody, items_in, gathered}
 use Rattle.js_scopes.specs.declared.binding.Binding.{Binding}
 use Rattle.js_scopes.specs.declared.binding.Binding.TheVariants as binding
 use Rattle.js_scopes.specs.declared.binding.BoundName.{BoundName}
@@ -31,29 +32,180 @@ pub record Known : Type 0 where
   pub binding : ℕ → Binding
   pub number : ℕ → ℕ
 
--- what is seen of a node, each list in the order of the text: the name that it is; the value of the string that it is; the
--- name that it gives a function that is directly assigned to it; its own name, where it is a function with one; what it
--- declares in the scope of the function around it, which is the module's body or not; the functions that start in it, where
--- it is given this name; the scopes that it makes; by what stands around it, the names in it; and, by what is known and the
--- number of the function around it, its call sites
-pub record Scoped : Type 0 where
-  pub is : List Token
-  pub string : Option (List ℕ)
-  pub gives : List ℕ
-  pub own_name : List Token
-  pub declares : Bool → Scope
-  pub functions : List ℕ → List FunctionInfo
-  pub scopes : List Scope
-  pub names : Numbering → Around → List BoundName
-  pub sites : Known → ℕ → List SiteInfo
+-- the token of a name, where there is one
+abbrev pub name_list : Option Token → List Token
+name_list None = []
+name_list (Some t) = t ∷ []
+
+-- the first token of a function, its own name, and its statements
+abbrev pub start_in : FunctionLayer → ℕ
+start_in (Function-F.Keyword word name params body) = word.start
+
+abbrev pub name_in : FunctionLayer → Option Token
+name_in (Function-F.Keyword word name params body) = name
+
+abbrev pub body_in : FunctionLayer → List Stmt
+body_in (Function-F.Keyword word name params body) = body.body
+
+abbrev pub start_of : Function → ℕ
+start_of f = start_in (out-Function f)
+
+abbrev pub own_name : Function → List Token
+own_name f = name_list (name_in (out-Function f))
+
+-- FUNCTIONS
 
 -- the name of a function without one
 abbrev pub anonymous : List ℕ
 anonymous = codes "<anonymous>"
 
--- a name in a tree
+-- the name of the member that a tail is
+abbrev pub member_in : {E : Type 0} → Tail E → Option (List ℕ)
+member_in (tail.Member dot name) = Some name.text
+member_in (tail.Call a) = None
+
+-- the name of the member that a chain with these tails ends in
+abbrev pub last_member : {E : Type 0} → List (Tail E) → Option (List ℕ)
+last_member [] = None
+last_member (x ∷ []) = member_in x
+last_member (x ∷ y ∷ xs) = last_member (y ∷ xs)
+
+-- the name that an expression, and a pattern, gives a function that is directly assigned to it
+abbrev pub chain_gives : ExprLayer → List ℕ
+chain_gives (Expr-F.Chain head tails) = unwrap_or (last_member tails) anonymous
+chain_gives _ = anonymous
+
+abbrev pub pattern_gives : PatternLayer → List ℕ
+pattern_gives (Pattern-F.«Pattern::Name» t) = t.text
+pattern_gives (Pattern-F.Member chain) = chain_gives (out-Expr chain)
+
+abbrev pub gives : Pattern → List ℕ
+gives p = pattern_gives (out-Pattern p)
+
+-- the name that is given to what stands directly in a node: by a target to a value; a function as a value is given what its expression is
+abbrev pub given_in_expr : ExprLayer → List ℕ → List ℕ
+given_in_expr (Expr-F.Assign target op value) given = gives target
+given_in_expr (Expr-F.«Expr::Fun» function) given = given
+given_in_expr _ given = anonymous
+
+abbrev pub given_in : Node → List ℕ → List ℕ
+given_in (AnExpr x) given = given_in_expr (out-Expr x) given
+given_in (ASlot x) given = gives (out-Slot x).target
+given_in _ given = anonymous
+
+-- the name of a function with this own name and this given one
+abbrev pub name_of : Option Token → List ℕ → List ℕ
+name_of None given = given
+name_of (Some t) given = t.text
+
+-- a function that is given this name
+abbrev pub info_in : FunctionLayer → List ℕ → FunctionInfo
+info_in f given = record { start = start_in f; params = 0; name = name_of (name_in f) given }
+
+abbrev pub own_functions : Node → List ℕ → List FunctionInfo
+own_functions (AFunction f) given = info_in (out-Function f) given ∷ []
+own_functions _ given = []
+
+-- the functions in a node that is given this name
+abbrev pub functions_in : Node → List ℕ → List FunctionInfo
+functions_in = gathered own_functions (λ n given. Some (given_in n given))
+
+-- SCOPES
+
+-- what a `var` of a name declares: in the module's body the names of the wrapper's parameters stay theirs (the Node.js manual, "The module wrapper")
+abbrev pub declared_by_var : Bool → Token → Scope
+declared_by_var true t = if is_some (wrapper_name t.text) then [] else t ∷ []
+declared_by_var false t = t ∷ []
+
+-- Fun: its name is declared in the scope of the function around it. A pattern that is declared: its name
+abbrev pub declared_by_stmt : StmtLayer → Scope
+declared_by_stmt (Stmt-F.«Stmt::Fun» function) = own_name function
+declared_by_stmt _ = []
+
+abbrev pub declared_by_pattern : PatternLayer → Bool → Scope
+declared_by_pattern (Pattern-F.«Pattern::Name» t) m = declared_by_var m t
+declared_by_pattern _ m = []
+
+abbrev pub own_declared : Node → Bool → Scope
+own_declared (AStmt x) m = declared_by_stmt (out-Stmt x)
+own_declared (APattern x) m = declared_by_pattern (out-Pattern x) m
+own_declared _ m = []
+
+-- expressions and functions declare nothing in the scope around them
+abbrev pub still_declares : Node → Bool → Option Bool
+still_declares (AnExpr x) m = None
+still_declares (AFunction x) m = None
+still_declares _ m = Some m
+
+-- what a node declares in the scope of the function around it, which is the module's body or not
+abbrev pub declared_in : Node → Bool → Scope
+declared_in = gathered own_declared still_declares
+
+-- what statements declare there
+abbrev pub body_scope : Bool → List Stmt → Scope
+body_scope m body = declared_in (ABody body) m
+
+-- the scope that stands around the parts of a node: that of the own name of a function as a value (ECMA-262, 14.1.22), and that of a function
+abbrev pub scope_in_expr : ExprLayer → Option Scope
+scope_in_expr (Expr-F.«Expr::Fun» function) = Some (own_name function)
+scope_in_expr _ = None
+
+abbrev pub scope_in : Node → Option Scope
+scope_in (AnExpr x) = scope_in_expr (out-Expr x)
+scope_in (AFunction x) = Some (body_scope false (body_in (out-Function x)))
+scope_in _ = None
+
+-- the scopes in a node
+abbrev pub scope_list : Option Scope → List Scope
+scope_list None = []
+scope_list (Some scope) = scope ∷ []
+
+abbrev pub own_scopes : Node → Unit {0} → List Scope
+own_scopes n u = scope_list (scope_in n)
+
+abbrev pub scopes_in : Node → List Scope
+scopes_in n = gathered own_scopes (λ n u. Some u) n tt
+
+-- NAMES
+
+-- the name that is this token, where it stands
 abbrev pub bound_name : Numbering → Around → Token → BoundName
 bound_name n around t = record { start = t.start; binding = binding_at n around t }
+
+-- the number of the function around the parts of a node
+abbrev pub number_in : Numbering → Node → ℕ → ℕ
+number_in n (AFunction x) holder = function_number n (start_of x)
+number_in n _ holder = holder
+
+-- what stands around the parts of a node
+abbrev pub around_with : Option Scope → ℕ → Around → Around
+around_with None holder around = around
+around_with (Some scope) holder around = record { scopes = scope ∷ around.scopes; holder = holder }
+
+abbrev pub around_in : Numbering → Node → Around → Around
+around_in n node around = around_with (scope_in node) (number_in n node around.holder) around
+
+-- Name: a use. Fun: the name that a function as a value writes stands in its own scope, and that of a declaration outside its function
+abbrev pub tokens_in_expr : ExprLayer → List Token
+tokens_in_expr (Expr-F.«Expr::Name» t) = t ∷ []
+tokens_in_expr (Expr-F.«Expr::Fun» function) = own_name function
+tokens_in_expr _ = []
+
+abbrev pub tokens_in_pattern : PatternLayer → List Token
+tokens_in_pattern (Pattern-F.«Pattern::Name» t) = t ∷ []
+tokens_in_pattern _ = []
+
+abbrev pub own_names : Numbering → Node → Around → List BoundName
+own_names n (AnExpr x) around = map (bound_name n (around_in n (AnExpr x) around)) (tokens_in_expr (out-Expr x))
+own_names n (APattern x) around = map (bound_name n around) (tokens_in_pattern (out-Pattern x))
+own_names n (AStmt x) around = map (bound_name n around) (declared_by_stmt (out-Stmt x))
+own_names n _ around = []
+
+-- the names in a node
+abbrev pub names_in : Numbering → Node → Around → List BoundName
+names_in n = gathered (own_names n) (λ node around. Some (around_in n node around))
+
+-- SITES
 
 -- what stands between the quotes
 abbrev pub between_quotes : List ℕ → List ℕ
@@ -63,24 +215,25 @@ between_quotes text = take (length text - 2) (drop 1 text)
 abbrev pub string_of : Token → Option (List ℕ)
 string_of t = elim t.class [ class.Str ↦ Some (between_quotes t.text) | _ ↦ None ]
 
--- the arguments of a call
-abbrev pub items_of : {E : Type 0} → Arguments E → List E
-items_of a = map (λ x. x.item) a.items
-
 -- the name is directly the wrapper's `require`
 abbrev pub is_require : Binding → Bool
 is_require (binding.Wrapper wrapper.Require) = true
 is_require _ = false
 
--- the value of the first argument, where it is a string
-abbrev pub first_string : List Scoped → Option (List ℕ)
-first_string [] = None
-first_string (x ∷ xs) = x.string
+-- the value of the string that an expression is
+abbrev pub string_in : ExprLayer → Option (List ℕ)
+string_in (Expr-F.Literal t) = string_of t
+string_in _ = None
 
--- the name is there, and is directly the wrapper's `require`
-abbrev pub names_require : Known → List Token → Bool
-names_require known [] = false
-names_require known (t ∷ ts) = is_require (known.binding t.start)
+-- the value of the first argument, where it is a string
+abbrev pub first_string : List Expr → Option (List ℕ)
+first_string [] = None
+first_string (x ∷ xs) = string_in (out-Expr x)
+
+-- the expression is a name, and directly the wrapper's `require`
+abbrev pub names_require : Known → ExprLayer → Bool
+names_require known (Expr-F.«Expr::Name» t) = is_require (known.binding t.start)
+names_require known _ = false
 
 -- the member passes the call on to the function that it is a member of
 abbrev pub is_reflected : List ℕ → Bool
@@ -101,233 +254,38 @@ call_sites holder (Some name) offset count =
     record { offset = offset; part = 0; holder = holder; args = count } ∷ reflected_sites holder name offset count
 
 -- the sites of a call with these arguments at an offset, behind a member of this name or none, where a call of `require` with a string is none
-abbrev pub arguments_sites : Known → ℕ → Bool → Option (List ℕ) → ℕ → List Scoped → List SiteInfo
-arguments_sites known holder required member offset arguments =
-    (if required && is_some (first_string arguments) then [] else call_sites holder member offset (length arguments))
-    ++ flat_map (λ (x : Scoped). x.sites known holder) arguments
+abbrev pub arguments_sites : ℕ → Bool → Option (List ℕ) → ℕ → List Expr → List SiteInfo
+arguments_sites holder required member offset arguments =
+    if required && is_some (first_string arguments) then [] else call_sites holder member offset (length arguments)
 
--- the sites of a tail
-abbrev pub tail_sites : Known → ℕ → Bool → Option (List ℕ) → Tail Scoped → List SiteInfo
-tail_sites known holder required member (tail.Member dot name) = []
-tail_sites known holder required member (tail.Call a) = arguments_sites known holder required member a.open.start (items_of a)
+-- the chain with this primary and these tails is directly the wrapper's `require`
+abbrev pub is_require_alone : Known → Expr → List (Tail Expr) → Bool
+is_require_alone known head [] = names_require known (out-Expr head)
+is_require_alone known head (t ∷ tails) = false
 
--- the name of the member that a tail is
-abbrev pub member_in : {E : Type 0} → Tail E → Option (List ℕ)
-member_in (tail.Member dot name) = Some name.text
-member_in (tail.Call a) = None
+-- a call's sites, behind its primary and the tails before it
+abbrev pub sites_of_tail : Known → ℕ → Expr → List (Tail Expr) → Tail Expr → List SiteInfo
+sites_of_tail known holder head before (tail.Member dot name) = []
+sites_of_tail known holder head before (tail.Call a) = arguments_sites holder (is_require_alone known head before) (last_member before) a.open.start (items_in a.items)
 
--- the sites of tails, the first of which stands behind a member of this name or none, and may be a call of `require`
-abbrev pub tails_sites : Known → ℕ → Bool → Option (List ℕ) → List (Tail Scoped) → List SiteInfo
-tails_sites known holder required member [] = []
-tails_sites known holder required member (t ∷ tails) = tail_sites known holder required member t ++ tails_sites known holder false (member_in t) tails
+abbrev pub own_sites : Known → Node → ℕ → List SiteInfo
+own_sites known (ATail head before t) holder = sites_of_tail known holder head before t
+own_sites known _ holder = []
 
--- what stands in a tail
-abbrev pub in_tail : Tail Scoped → List Scoped
-in_tail (tail.Member dot name) = []
-in_tail (tail.Call a) = items_of a
+-- what stands in a function is held by it
+abbrev pub holder_in : Known → Node → ℕ → ℕ
+holder_in known (AFunction x) holder = known.number (start_of x)
+holder_in known _ holder = holder
 
--- the name of the last member, where the last tail is one
-abbrev pub last_member : {E : Type 0} → List (Tail E) → List ℕ
-last_member [] = anonymous
-last_member (tail.Member dot name ∷ []) = name.text
-last_member (x ∷ xs) = last_member xs
+-- the call sites in a node, in the function with this number
+abbrev pub sites_in : Known → Node → ℕ → List SiteInfo
+sites_in known = gathered (own_sites known) (λ n holder. Some (holder_in known n holder))
 
--- what stands around a function expression: the scope of its own name (ECMA-262, 14.1.22)
-abbrev pub around_value : Scoped → Around → Around
-around_value function around = record { scopes = function.own_name ∷ around.scopes; holder = around.holder }
-
--- Assign: a target and a value, which the target gives a name. Chain: its primary, and its tails one after another. Fun: a function, whose own
--- name is declared in a scope of its own. Literal: a string. Name: a use
-abbrev pub expr_step : Expr-F Scoped Scoped Scoped Scoped Scoped → Scoped
-expr_step (Expr-F.Assign target op value) = record {
-  is = [];
-  string = None;
-  gives = anonymous;
-  own_name = [];
-  declares = λ m. [];
-  functions = λ given. target.functions anonymous ++ value.functions target.gives;
-  scopes = target.scopes ++ value.scopes;
-  names = λ n around. target.names n around ++ value.names n around;
-  sites = λ known holder. target.sites known holder ++ value.sites known holder;
-}
-expr_step (Expr-F.Chain head tails) =
-    let inner : List Scoped = flat_map in_tail tails in
-    record {
-      is = [];
-      string = None;
-      gives = last_member tails;
-      own_name = [];
-      declares = λ m. [];
-      functions = λ given. head.functions anonymous ++ flat_map (λ (x : Scoped). x.functions anonymous) inner;
-      scopes = head.scopes ++ flat_map (λ (x : Scoped). x.scopes) inner;
-      names = λ n around. head.names n around ++ flat_map (λ (x : Scoped). x.names n around) inner;
-      sites = λ known holder. head.sites known holder ++ tails_sites known holder (names_require known head.is) None tails;
-    }
-expr_step (Expr-F.«Expr::Fun» function) = record {
-  is = [];
-  string = None;
-  gives = anonymous;
-  own_name = [];
-  declares = λ m. [];
-  functions = function.functions;
-  scopes = function.own_name ∷ function.scopes;
-  names = λ n around. map (bound_name n (around_value function around)) function.own_name ++ function.names n (around_value function around);
-  sites = function.sites;
-}
-expr_step (Expr-F.Literal t) = record {
-  is = [];
-  string = string_of t;
-  gives = anonymous;
-  own_name = [];
-  declares = λ m. [];
-  functions = λ given. [];
-  scopes = [];
-  names = λ n around. [];
-  sites = λ known holder. [];
-}
-expr_step (Expr-F.«Expr::Name» t) = record {
-  is = t ∷ [];
-  string = None;
-  gives = anonymous;
-  own_name = [];
-  declares = λ m. [];
-  functions = λ given. [];
-  scopes = [];
-  names = λ n around. bound_name n around t ∷ [];
-  sites = λ known holder. [];
-}
-
--- the token of a name, where there is one
-abbrev pub name_list : Option Token → List Token
-name_list None = []
-name_list (Some t) = t ∷ []
-
--- the name of a function with this own name and this given one
-abbrev pub name_of : Option Token → List ℕ → List ℕ
-name_of None given = given
-name_of (Some t) given = t.text
-
--- what stands around the body of the function that starts there and has this scope
-abbrev pub inside : Numbering → Around → ℕ → Scope → Around
-inside n around start scope = record { scopes = scope ∷ around.scopes; holder = function_number n start }
-
--- Keyword: a function that starts at `function`, with a scope of its own for what its body declares
-abbrev pub function_step : Function-F Scoped Scoped Scoped Scoped Scoped → Scoped
-function_step (Function-F.Keyword word name params body) =
-    let scope : Scope = flat_map (λ (x : Scoped). x.declares false) body.body in
-    record {
-      is = [];
-      string = None;
-      gives = anonymous;
-      own_name = name_list name;
-      declares = λ m. [];
-      functions = λ given. record { start = word.start; params = 0; name = name_of name given } ∷ flat_map (λ (x : Scoped). x.functions anonymous) body.body;
-      scopes = scope ∷ flat_map (λ (x : Scoped). x.scopes) body.body;
-      names = λ n around. flat_map (λ (x : Scoped). x.names n (inside n around word.start scope)) body.body;
-      sites = λ known holder. flat_map (λ (x : Scoped). x.sites known (known.number word.start)) body.body;
-    }
-
--- Name: a name that is bound or assigned to. Member: a chain
-abbrev pub pattern_step : Pattern-F Scoped Scoped Scoped Scoped Scoped → Scoped
-pattern_step (Pattern-F.«Pattern::Name» t) = record {
-  is = t ∷ [];
-  string = None;
-  gives = t.text;
-  own_name = [];
-  declares = λ m. t ∷ [];
-  functions = λ given. [];
-  scopes = [];
-  names = λ n around. bound_name n around t ∷ [];
-  sites = λ known holder. [];
-}
-pattern_step (Pattern-F.Member chain) = record {
-  is = [];
-  string = None;
-  gives = chain.gives;
-  own_name = [];
-  declares = λ m. [];
-  functions = chain.functions;
-  scopes = chain.scopes;
-  names = chain.names;
-  sites = chain.sites;
-}
-
--- what a slot is given, where it is given something
-abbrev pub init_list : Option (Init Scoped) → List Scoped
-init_list None = []
-init_list (Some init) = init.value ∷ []
-
--- a pattern and what it is given, which the pattern gives a name
-abbrev pub slot_step : Slot-F Scoped Scoped Scoped Scoped Scoped → Scoped
-slot_step slot = record {
-  is = [];
-  string = None;
-  gives = anonymous;
-  own_name = [];
-  declares = slot.target.declares;
-  functions = λ given. slot.target.functions anonymous ++ flat_map (λ (x : Scoped). x.functions slot.target.gives) (init_list slot.init);
-  scopes = slot.target.scopes ++ flat_map (λ (x : Scoped). x.scopes) (init_list slot.init);
-  names = λ n around. slot.target.names n around ++ flat_map (λ (x : Scoped). x.names n around) (init_list slot.init);
-  sites = λ known holder. slot.target.sites known holder ++ flat_map (λ (x : Scoped). x.sites known holder) (init_list slot.init);
-}
-
--- what a `var` of these names declares: in the module's body the names of the wrapper's parameters stay theirs (the Node.js manual, "The module wrapper")
-abbrev pub declared_by_var : Bool → Scope → Scope
-declared_by_var true names = filter (λ (t : Token). not (is_some (wrapper_name t.text))) names
-declared_by_var false names = names
-
--- Fun: its name is declared in the scope of the function around it, and the name that it writes is bound there. Plain: the expression. Vars: each of
--- its slots, which declare in the scope of the function around them
-abbrev pub stmt_step : Stmt-F Scoped Scoped Scoped Scoped Scoped → Scoped
-stmt_step (Stmt-F.«Stmt::Fun» function) = record {
-  is = [];
-  string = None;
-  gives = anonymous;
-  own_name = [];
-  declares = λ m. function.own_name;
-  functions = function.functions;
-  scopes = function.scopes;
-  names = λ n around. map (bound_name n around) function.own_name ++ function.names n around;
-  sites = function.sites;
-}
-stmt_step (Stmt-F.Plain value semi) = value
-stmt_step (Stmt-F.Vars word decls semi) =
-    let slots : List Scoped = map (λ x. x.item) decls in
-    record {
-      is = [];
-      string = None;
-      gives = anonymous;
-      own_name = [];
-      declares = λ m. declared_by_var m (flat_map (λ (x : Scoped). x.declares m) slots);
-      functions = λ given. flat_map (λ (x : Scoped). x.functions anonymous) slots;
-      scopes = flat_map (λ (x : Scoped). x.scopes) slots;
-      names = λ n around. flat_map (λ (x : Scoped). x.names n around) slots;
-      sites = λ known holder. flat_map (λ (x : Scoped). x.sites known holder) slots;
-    }
-
--- what is seen of an expression
-unfoldable pub expr : Expr → Scoped
-expr = fold-Expr Scoped Scoped Scoped Scoped Scoped expr_step function_step pattern_step stmt_step slot_step
-
--- what is seen of a function
-unfoldable pub function : Function → Scoped
-function = fold-Function Scoped Scoped Scoped Scoped Scoped expr_step function_step pattern_step stmt_step slot_step
-
--- what is seen of a pattern
-unfoldable pub pattern : Pattern → Scoped
-pattern = fold-Pattern Scoped Scoped Scoped Scoped Scoped expr_step function_step pattern_step stmt_step slot_step
-
--- what is seen of a statement
-unfoldable pub stmt : Stmt → Scoped
-stmt = fold-Stmt Scoped Scoped Scoped Scoped Scoped expr_step function_step pattern_step stmt_step slot_step
-
--- what is seen of a slot
-unfoldable pub slot : Slot → Scoped
-slot = fold-Slot Scoped Scoped Scoped Scoped Scoped expr_step function_step pattern_step stmt_step slot_step
+-- TREES
 
 -- what the module's body declares
 abbrev pub module_scope : Tree → Scope
-module_scope tree = flat_map (λ x. (stmt x).declares true) tree.body
+module_scope tree = body_scope true tree.body
 
 -- functions go by their start
 abbrev pub function_order : FunctionInfo → FunctionInfo → Ordering
@@ -339,13 +297,13 @@ site_order = then_cmp (on (λ s. s.offset) nat_cmp) (on (λ s. s.part) nat_cmp)
 
 -- the functions of the module but its body, by their start
 abbrev pub inner_functions : Tree → List FunctionInfo
-inner_functions tree = ascending function_order (flat_map (λ x. (stmt x).functions anonymous) tree.body)
+inner_functions tree = ascending function_order (functions_in (ABody tree.body) anonymous)
 
 -- what the numbers of functions and declared names go by
 abbrev pub numbering_of : Tree → Numbering
 numbering_of tree = record {
   functions = inner_functions tree;
-  locals = flat_map firsts (module_scope tree ∷ flat_map (λ x. (stmt x).scopes) tree.body);
+  locals = flat_map firsts (module_scope tree ∷ scopes_in (ABody tree.body));
 }
 
 -- what stands around the statements of the module's body
@@ -358,7 +316,7 @@ functions_of tree = record { start = 0; params = 0; name = codes "<module>" } �
 
 -- the names of a tree, in the order of the text
 abbrev pub names_of : Tree → List BoundName
-names_of tree = flat_map (λ x. (stmt x).names (numbering_of tree) (around_module tree)) tree.body
+names_of tree = names_in (numbering_of tree) (ABody tree.body) (around_module tree)
 
 -- what the name at the offset means among the names
 abbrev pub meaning : List BoundName → ℕ → Binding
@@ -375,4 +333,4 @@ known_of tree = record { binding = binding_of tree; number = function_number (nu
 
 -- the call sites of a tree, by offset and part
 abbrev pub sites_of : Tree → List SiteInfo
-sites_of tree = ascending site_order (flat_map (λ x. (stmt x).sites (known_of tree) 0) tree.body)
+sites_of tree = ascending site_order (sites_in (known_of tree) (ABody tree.body) 0)

@@ -1,7 +1,8 @@
 //! The sites of a call.
-ghost use Rattle.std.specs.Prelude.{◌≡◌, ◌++◌, ◌&&◌, [], map, is_some, if◌then◌else◌, OnOk};
+ghost use Rattle.std.specs.Prelude.{◌≡◌, ◌++◌, ◌&&◌, [], is_some, if◌then◌else◌, OnOk};
 ghost use Rattle.std.specs.Option.{option_map};
-ghost use Rattle.js_tree.proofs.Folds.{map_listed};
+ghost use Rattle.js_tree.specs.declared.tree.Expr.{out-Expr};
+ghost use Rattle.js_tree.specs.Parts.{items_in};
 ghost use Rattle.js_scopes.specs.Scopes as seen;
 
 use crate::site::SiteInfo;
@@ -10,15 +11,15 @@ use js_tree::{Expr, Listed, Token, TokenClass};
 use sqlite_items::Boxed;
 
 /// Whether a call is one of `require` with a string, where what is called may be `require`.
-pub(crate) fn is_required(required: bool, items: &[Listed<Boxed<Expr>>]) -> bool
-    ensures { result ≡ (required && is_some (seen.first_string (map (λ x. x.item) (map (map_listed seen.expr) items.now)))) }
+pub fn is_required(required: bool, items: &[Listed<Boxed<Expr>>]) -> bool
+    ensures { result ≡ (required && is_some (seen.first_string (items_in items.now))) }
 {
     required && has_string(items)
 }
 
 // Whether the first of the arguments is a string.
 fn has_string(items: &[Listed<Boxed<Expr>>]) -> bool
-    ensures { result ≡ is_some (seen.first_string (map (λ x. x.item) (map (map_listed seen.expr) items.now))) }
+    ensures { result ≡ is_some (seen.first_string (items_in items.now)) }
 {
     match items.first() {
         None => false,
@@ -28,18 +29,11 @@ fn has_string(items: &[Listed<Boxed<Expr>>]) -> bool
 
 // Whether an expression is a string.
 fn is_string(value: &Expr) -> bool
-    ensures { result ≡ is_some (seen.expr value.now).string }
+    ensures { result ≡ is_some (seen.string_in (out-Expr value.now)) }
 {
     match value {
-        Expr::Assign {
-            target: _,
-            op: _,
-            value: _,
-        } => false,
-        Expr::Chain { head: _, tails: _ } => false,
-        Expr::Fun { function: _ } => false,
         Expr::Literal(token) => is_string_token(token),
-        Expr::Name(_) => false,
+        _ => false,
     }
 }
 
@@ -116,8 +110,8 @@ fn push_reflected(
     Ok(())
 }
 
-// Whether a member of this name passes the call on to the function that it is a member of.
-fn is_reflected(name: &str) -> bool
+/// Whether a member of this name passes the call on to the function that it is a member of.
+pub fn is_reflected(name: &str) -> bool
     ensures { result ≡ seen.is_reflected name.now }
 {
     name == "call" || name == "apply" || name == "bind"

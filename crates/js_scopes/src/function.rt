@@ -1,16 +1,17 @@
 //! The functions of a module.
-ghost use Rattle.std.specs.Prelude.{◌≡◌, ◌++◌, IfOk, OnOk};
+ghost use Rattle.std.specs.Prelude.{◌≡◌, ◌++◌, ◌∷◌, [], IfOk, OnOk};
+ghost use Rattle.std.specs.List.{flat_map};
 ghost use Rattle.std.specs.List.Sorted.{IsNonDecreasingBy};
 ghost use Rattle.js_scopes.specs.declared.function.FunctionInfo.{FunctionInfo as GhostInfo};
-ghost use Rattle.js_scopes.specs.Scopes.{functions_of, name_of, anonymous};
+ghost use Rattle.js_tree.specs.declared.tree.Function.{out-Function};
+ghost use Rattle.js_tree.specs.Parts.{node_of};
+ghost use Rattle.js_scopes.specs.Scopes.{functions_of, functions_in, own_functions, info_in, name_of};
 ghost use Rattle.js_scopes.specs.Scopes as seen;
-ghost use Rattle.js_scopes.specs.Walks.{tail_items, in_items, in_tails, in_slots, in_stmts};
 
-use crate::given::target_name;
+use crate::function_names::given_in;
 use crate::order::{Ranked, ascending};
 use jam_base::{List, OutOfMemory, Text};
-use js_tree::{Expr, Function, Listed, Pattern, Slot, Stmt, Tail, Token, Tree};
-use sqlite_items::Boxed;
+use js_tree::{Function, Gather, Node, Token, Tree, walk_tree};
 use std::alloc::Global;
 use std::cmp::Ordering;
 
@@ -59,159 +60,70 @@ pub(crate) fn inner_functions(alloc: Global, tree: &Tree) -> Result<Vec<Function
     ensures ascending { IfOk result (λ made. IsNonDecreasingBy (λ (f : GhostInfo). f.start) made.items) }
 {
     let mut inner = Vec::new(alloc);
-    push_stmts(alloc, tree.body.as_slice(), &mut inner)?;
+    let body = Node::Body(tree.body.as_slice());
+    walk_tree(alloc, &GivenNames, body, "<anonymous>", &mut inner)?;
     ascending(alloc, inner)
 }
 
-#[cycle(functions)]
-fn push_stmts(alloc: Global, body: &[Stmt], out: &mut Vec<FunctionInfo>) -> Result<(), OutOfMemory>
-    ensures { OnOk result (out.new.items ≡ out.old.items ++ in_stmts (λ x. x.functions anonymous) body.now) }
-{
-    for statement in body {
-        push_stmt(alloc, statement, out)?;
+// The functions in a node, by the name that is given to what stands directly in it.
+struct GivenNames;
+
+impl<'t> Gather<'t> for GivenNames {
+    ghost use Rattle.std.specs.Prelude.{ℕ, List, Some};
+    ghost use Rattle.js_scopes.specs.declared.function.FunctionInfo.{FunctionInfo as Info};
+    ghost use Rattle.js_scopes.specs.Scopes.{own_functions, given_in as name_given};
+
+    type Around = &'t str;
+
+    type Item = FunctionInfo;
+
+    ghost Place = { List ℕ };
+
+    ghost Given = { Info };
+
+    ghost place = { λ s. s.now };
+
+    ghost given = { λ f. f };
+
+    ghost own = { λ g. own_functions };
+
+    ghost inside = { λ g n given. Some (name_given n given) };
+
+    fn push_own(
+        &self,
+        alloc: Global,
+        node: Node<'t>,
+        around: &'t str,
+        out: &mut Vec<FunctionInfo>,
+    ) -> Result<(), OutOfMemory> {
+        match node {
+            Node::Function(function) => push_function(alloc, function, around, out),
+            _ => Ok(()),
+        }
     }
-    Ok(())
+
+    fn inside(&self, node: Node<'t>, around: &'t str) -> Option<&'t str> {
+        Some(given_in(node, around))
+    }
 }
 
-#[cycle(functions)]
-fn push_stmt(
-    alloc: Global,
-    statement: &Stmt,
-    out: &mut Vec<FunctionInfo>,
-) -> Result<(), OutOfMemory>
-    ensures { OnOk result (out.new.items ≡ out.old.items ++ (seen.stmt statement.now).functions anonymous) }
-{
-    match statement {
-        Stmt::Fun { function } => push_function(alloc, function.get(), "<anonymous>", out),
-        Stmt::Plain { value, semi: _ } => push_expr(alloc, value, "<anonymous>", out),
-        Stmt::Vars {
-            word: _,
-            decls,
-            semi: _,
-        } => push_slots(alloc, decls.as_slice(), out),
-    }
-}
-
-#[cycle(functions)]
 fn push_function(
     alloc: Global,
     function: &Function,
     given: &str,
     out: &mut Vec<FunctionInfo>,
 ) -> Result<(), OutOfMemory>
-    ensures { OnOk result (out.new.items ≡ out.old.items ++ (seen.function function.now).functions given.now) }
+    ensures { OnOk result (out.new.items ≡ out.old.items ++ info_in (out-Function function.now) given.now ∷ []) }
 {
     match function {
-        Function::Keyword {
-            word,
-            name,
-            params: _,
-            body,
-        } => {
+        Function::Keyword { word, name, .. } => {
             out.push(FunctionInfo {
                 start: word.start,
                 params: 0,
                 name: name_text(alloc, name, given)?,
             })?;
-            push_stmts(alloc, body.body.as_slice(), out)
+            Ok(())
         }
-    }
-}
-
-#[cycle(functions)]
-fn push_expr(
-    alloc: Global,
-    value: &Expr,
-    given: &str,
-    out: &mut Vec<FunctionInfo>,
-) -> Result<(), OutOfMemory>
-    ensures { OnOk result (out.new.items ≡ out.old.items ++ (seen.expr value.now).functions given.now) }
-{
-    match value {
-        Expr::Assign {
-            target,
-            op: _,
-            value,
-        } => {
-            push_pattern(alloc, target.get(), out)?;
-            push_expr(alloc, value.get(), target_name(target.get()), out)
-        }
-        Expr::Chain { head, tails } => {
-            push_expr(alloc, head.get(), "<anonymous>", out)?;
-            push_tails(alloc, tails.as_slice(), out)
-        }
-        Expr::Fun { function } => push_function(alloc, function.get(), given, out),
-        Expr::Literal(_) => Ok(()),
-        Expr::Name(_) => Ok(()),
-    }
-}
-
-#[cycle(functions)]
-fn push_pattern(
-    alloc: Global,
-    target: &Pattern,
-    out: &mut Vec<FunctionInfo>,
-) -> Result<(), OutOfMemory>
-    ensures { OnOk result (out.new.items ≡ out.old.items ++ (seen.pattern target.now).functions anonymous) }
-{
-    match target {
-        Pattern::Name(_) => Ok(()),
-        Pattern::Member { chain } => push_expr(alloc, chain.get(), "<anonymous>", out),
-    }
-}
-
-#[cycle(functions)]
-fn push_tails(
-    alloc: Global,
-    tails: &[Tail<Boxed<Expr>>],
-    out: &mut Vec<FunctionInfo>,
-) -> Result<(), OutOfMemory>
-    ensures { OnOk result (out.new.items ≡ out.old.items ++ in_tails (λ x. x.functions anonymous) tails.now) }
-{
-    for tail in tails {
-        if let Tail::Call(arguments) = tail {
-            push_items(alloc, arguments.items.as_slice(), out)?;
-        }
-    }
-    Ok(())
-}
-
-#[cycle(functions)]
-fn push_items(
-    alloc: Global,
-    items: &[Listed<Boxed<Expr>>],
-    out: &mut Vec<FunctionInfo>,
-) -> Result<(), OutOfMemory>
-    ensures { OnOk result (out.new.items ≡ out.old.items ++ in_items (λ x. x.functions anonymous) items.now) }
-{
-    for listed in items {
-        push_expr(alloc, listed.item.get(), "<anonymous>", out)?;
-    }
-    Ok(())
-}
-
-#[cycle(functions)]
-fn push_slots(
-    alloc: Global,
-    slots: &[Listed<Slot>],
-    out: &mut Vec<FunctionInfo>,
-) -> Result<(), OutOfMemory>
-    ensures { OnOk result (out.new.items ≡ out.old.items ++ in_slots (λ x. x.functions anonymous) slots.now) }
-{
-    for listed in slots {
-        push_slot(alloc, &listed.item, out)?;
-    }
-    Ok(())
-}
-
-#[cycle(functions)]
-fn push_slot(alloc: Global, slot: &Slot, out: &mut Vec<FunctionInfo>) -> Result<(), OutOfMemory>
-    ensures { OnOk result (out.new.items ≡ out.old.items ++ (seen.slot slot.now).functions anonymous) }
-{
-    push_pattern(alloc, &slot.target, out)?;
-    match &slot.init {
-        None => Ok(()),
-        Some(init) => push_expr(alloc, init.value.get(), target_name(&slot.target), out),
     }
 }
 

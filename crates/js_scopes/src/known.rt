@@ -2,19 +2,23 @@
 ghost use Rattle.std.specs.Prelude.{◌≡◌, ◌<◌, length};
 ghost use Rattle.std.specs.List.Sorted.{IsNonDecreasingBy};
 ghost use Rattle.js_scopes.specs.declared.function.FunctionInfo.{FunctionInfo as GhostInfo};
+ghost use Rattle.js_tree.specs.declared.tree.Expr.{out-Expr};
+ghost use Rattle.js_tree.specs.Parts.{node_of};
 ghost use Rattle.js_scopes.specs.AtHand.{known_in};
 ghost use Rattle.js_scopes.specs.Scopes as seen;
 
 use crate::binding::{Binding, WrapperName};
 use crate::bindings::Bindings;
+use crate::call_sites::start_of;
 use crate::function::FunctionInfo;
 use crate::numbers::function_number;
-use js_tree::{Expr, Token};
+use js_tree::{Expr, Node, Tail, Token};
+use sqlite_items::Boxed;
 use std::marker::Model;
 
 /// What the names of a module mean, and its functions but its body.
 #[derive(Drop)]
-pub(crate) struct Known<'m> {
+pub struct Known<'m> {
     bindings: &'m Bindings,
     functions: &'m [FunctionInfo],
 }
@@ -34,7 +38,7 @@ impl<'m> Model for Known<'m> {
 
 impl<'m> Known<'m> {
     /// These bindings and functions.
-    pub(crate) fn of(bindings: &'m Bindings, functions: &'m [FunctionInfo]) -> Known<'m>
+    pub fn of(bindings: &'m Bindings, functions: &'m [FunctionInfo]) -> Known<'m>
         requires ascending { IsNonDecreasingBy (λ (f : GhostInfo). f.start) functions.now }
         requires few { length functions.now < 4294967295 }
         ensures { result ≡ record { meanings = bindings.now; functions = functions.now } }
@@ -46,35 +50,55 @@ impl<'m> Known<'m> {
     }
 
     /// The number of the function that starts at the offset.
-    pub(crate) fn number(&self, start: u32) -> u32
+    pub fn number(&self, start: u32) -> u32
         ensures { result ≡ (known_in self.now).number start }
     {
         let functions = self.functions;
         function_number(functions, start)
     }
 
-    /// Whether the name that is this token is directly the wrapper's `require`.
-    pub(crate) fn is_require(&self, token: &Token) -> bool
-        ensures { result ≡ seen.is_require ((known_in self.now).binding token.now.start) }
+    /// The number of the function around the parts of a node that stands in the function with this number.
+    pub fn holder_in(&self, node: Node<'_>, holder: u32) -> u32
+        ensures { result ≡ seen.holder_in (known_in self.now) (node_of node.entry) holder }
+    {
+        match node {
+            Node::Function(function) => self.number(start_of(function)),
+            _ => holder,
+        }
+    }
+
+    /// What the name that is this token means.
+    pub fn binding(&self, token: &Token) -> Binding
+        ensures { result ≡ (known_in self.now).binding token.now.start }
     {
         let bindings = self.bindings;
-        is_require(bindings.of(token.start))
+        bindings.of(token.start)
+    }
+
+    /// Whether the name that is this token is directly the wrapper's `require`.
+    pub fn is_require(&self, token: &Token) -> bool
+        ensures { result ≡ seen.is_require ((known_in self.now).binding token.now.start) }
+    {
+        is_require(self.binding(token))
     }
 
     /// Whether the expression is directly the wrapper's `require`.
-    pub(crate) fn names_require(&self, head: &Expr) -> bool
-        ensures { result ≡ seen.names_require (known_in self.now) (seen.expr head.now).is }
+    pub fn names_require(&self, head: &Expr) -> bool
+        ensures { result ≡ seen.names_require (known_in self.now) (out-Expr head.now) }
     {
         match head {
-            Expr::Assign {
-                target: _,
-                op: _,
-                value: _,
-            } => false,
-            Expr::Chain { head: _, tails: _ } => false,
-            Expr::Fun { function: _ } => false,
-            Expr::Literal(_) => false,
             Expr::Name(token) => self.is_require(token),
+            _ => false,
+        }
+    }
+
+    /// Whether a chain with this primary and these tails is directly the wrapper's `require`.
+    pub fn is_require_alone(&self, head: &Expr, tails: &[Tail<Boxed<Expr>>]) -> bool
+        ensures { result ≡ seen.is_require_alone (known_in self.now) head.now tails.now }
+    {
+        match tails {
+            [] => self.names_require(head),
+            [_, ..] => false,
         }
     }
 }

@@ -1,46 +1,131 @@
 //! The scopes of a module, and what a name means in them.
-ghost use Rattle.std.specs.Prelude.{◌≡◌, ◌++◌, ◌∷◌, map, IfOk, OnOk};
+ghost use Rattle.std.specs.Prelude.{◌≡◌, ◌++◌, ◌∷◌, Bool, false, Some, None, map, if◌then◌else◌, IfOk, OnOk};
+ghost use Rattle.std.specs.List.{flat_map};
 ghost use Rattle.std.specs.Option.{option_map};
+ghost use Rattle.js_tree.specs.declared.tree.Expr.{out-Expr};
+ghost use Rattle.js_tree.specs.declared.tree.Function.{out-Function};
+ghost use Rattle.js_tree.specs.declared.tree.Pattern.{out-Pattern};
+ghost use Rattle.js_tree.specs.declared.tree.Stmt.{out-Stmt};
+ghost use Rattle.js_tree.specs.Parts.{node_of};
 ghost use Rattle.js_scopes.specs.Names as names;
 ghost use Rattle.js_scopes.specs.Scopes as seen;
-ghost use Rattle.js_scopes.specs.Walks.{in_stmts, in_slots, scopes_of, one_token};
+ghost use Rattle.js_scopes.specs.Walks.{scopes_of};
 
 use crate::binding::{Binding, WrapperName};
+use crate::declaration::Scope;
 use jam_base::OutOfMemory;
-use js_tree::{Function, Listed, Pattern, Slot, Stmt, Token};
+use js_tree::{Expr, Function, Gather, Node, Pattern, Stmt, Token, walk_tree};
 use std::alloc::Global;
 
-// What the statements declare in the scope of the function around them, which is the module's body or not.
-pub(crate) fn declared_in<'t>(
+// The scope of statements in the function around them, which is the module's body or not.
+pub(crate) fn body_scope<'t>(
+    alloc: Global,
+    body: &'t [Stmt],
+    in_module: bool,
+) -> Result<Scope<'t>, OutOfMemory>
+    ensures { IfOk result (λ scope. scope ≡ seen.body_scope in_module body.now) }
+{
+    Scope::of(alloc, declared_in(alloc, body, in_module)?)
+}
+
+// What the statements declare there.
+fn declared_in<'t>(
     alloc: Global,
     body: &'t [Stmt],
     in_module: bool,
 ) -> Result<Vec<&'t Token>, OutOfMemory>
-    ensures { IfOk result (λ scope. map (λ t. t.now) scope.items ≡ in_stmts (λ x. x.declares in_module) body.now) }
+    ensures { IfOk result (λ scope. map (λ t. t.now) scope.items ≡ seen.body_scope in_module body.now) }
 {
     let mut scope = Vec::new(alloc);
-    for statement in body {
-        push_declared(statement, in_module, &mut scope)?;
-    }
+    walk_tree(
+        alloc,
+        &Declarations,
+        Node::Body(body),
+        in_module,
+        &mut scope,
+    )?;
     Ok(scope)
 }
 
-// Adds what the statement declares.
-fn push_declared<'t>(
-    statement: &'t Stmt,
-    in_module: bool,
-    scope: &mut Vec<&'t Token>,
-) -> Result<(), OutOfMemory>
-    ensures { OnOk result (map (λ t. t.now) scope.new.items ≡ map (λ t. t.now) scope.old.items ++ (seen.stmt statement.now).declares in_module) }
+// The names that are declared in the scope of the function around a node, which is the module's body or
+// not.
+struct Declarations;
+
+impl<'t> Gather<'t> for Declarations {
+    ghost use Rattle.std.specs.Prelude.{Bool};
+    ghost use Rattle.js_tree.specs.declared.token.Token.{Token as GhostToken};
+    ghost use Rattle.js_scopes.specs.Scopes.{own_declared as declared_by, still_declares as goes_on};
+
+    type Around = bool;
+
+    type Item = &'t Token;
+
+    ghost Place = { Bool };
+
+    ghost Given = { GhostToken };
+
+    ghost place = { λ m. m };
+
+    ghost given = { λ t. t.now };
+
+    ghost own = { λ d. declared_by };
+
+    ghost inside = { λ d. goes_on };
+
+    fn push_own(
+        &self,
+        _alloc: Global,
+        node: Node<'t>,
+        around: bool,
+        out: &mut Vec<&'t Token>,
+    ) -> Result<(), OutOfMemory> {
+        match node {
+            Node::Stmt(statement) => push_token(declared_by_stmt(statement), out),
+            Node::Pattern(pattern) => push_token(declared_by_pattern(pattern, around), out),
+            _ => Ok(()),
+        }
+    }
+
+    fn inside(&self, node: Node<'t>, around: bool) -> Option<bool> {
+        match node {
+            Node::Expr(_) => None,
+            Node::Function(_) => None,
+            _ => Some(around),
+        }
+    }
+}
+
+// The name that a declaration declares.
+pub(crate) fn declared_by_stmt(statement: &Stmt) -> Option<&Token>
+    ensures { seen.name_list (option_map (λ t. t.now) result) ≡ seen.declared_by_stmt (out-Stmt statement.now) }
 {
     match statement {
-        Stmt::Fun { function } => push_token(own_name(function.get()), scope),
-        Stmt::Plain { value: _, semi: _ } => Ok(()),
-        Stmt::Vars {
-            word: _,
-            decls,
-            semi: _,
-        } => push_variables(decls.as_slice(), in_module, scope),
+        Stmt::Fun { function } => own_name(function.get()),
+        _ => None,
+    }
+}
+
+// The name that a pattern declares.
+fn declared_by_pattern(pattern: &Pattern, in_module: bool) -> Option<&Token>
+    ensures { seen.name_list (option_map (λ t. t.now) result) ≡ seen.declared_by_pattern (out-Pattern pattern.now) in_module }
+{
+    match pattern {
+        Pattern::Name(token) => kept(token, in_module),
+        _ => None,
+    }
+}
+
+// The name that a `var` declares: in the module's body those of the wrapper stay its own.
+fn kept(token: &Token, in_module: bool) -> Option<&Token>
+    ensures { seen.name_list (option_map (λ t. t.now) result) ≡ seen.declared_by_var in_module token.now }
+{
+    if in_module {
+        match wrapper_name(token.text.as_str()) {
+            Some(_) => None,
+            None => Some(token),
+        }
+    } else {
+        Some(token)
     }
 }
 
@@ -54,46 +139,9 @@ fn push_token<'t>(name: Option<&'t Token>, scope: &mut Vec<&'t Token>) -> Result
     Ok(())
 }
 
-// Adds the names that a `var` declares with these slots.
-fn push_variables<'t>(
-    slots: &'t [Listed<Slot>],
-    in_module: bool,
-    scope: &mut Vec<&'t Token>,
-) -> Result<(), OutOfMemory>
-    ensures { OnOk result (map (λ t. t.now) scope.new.items ≡ map (λ t. t.now) scope.old.items ++ seen.declared_by_var in_module (in_slots (λ x. x.declares in_module) slots.now)) }
-{
-    for listed in slots {
-        push_token(variable(&listed.item.target, in_module), scope)?;
-    }
-    Ok(())
-}
-
-// The name that the target of a `var` declares: in the module's body those of the wrapper stay its own.
-fn variable(target: &Pattern, in_module: bool) -> Option<&Token>
-    ensures { seen.name_list (option_map (λ t. t.now) result) ≡ seen.declared_by_var in_module ((seen.pattern target.now).declares in_module) }
-{
-    match target {
-        Pattern::Name(token) => kept(token, in_module),
-        Pattern::Member { chain: _ } => None,
-    }
-}
-
-fn kept(token: &Token, in_module: bool) -> Option<&Token>
-    ensures { seen.name_list (option_map (λ t. t.now) result) ≡ seen.declared_by_var in_module (one_token token.now) }
-{
-    if in_module {
-        match wrapper_name(token.text.as_str()) {
-            Some(_) => None,
-            None => Some(token),
-        }
-    } else {
-        Some(token)
-    }
-}
-
-// The name of a function with one.
-pub(crate) fn own_name(function: &Function) -> Option<&Token>
-    ensures { seen.name_list (option_map (λ t. t.now) result) ≡ (seen.function function.now).own_name }
+/// The token of the name that a function writes as its own.
+pub fn own_name(function: &Function) -> Option<&Token>
+    ensures { option_map (λ t. t.now) result ≡ seen.name_in (out-Function function.now) }
 {
     match function {
         Function::Keyword {
@@ -105,22 +153,56 @@ pub(crate) fn own_name(function: &Function) -> Option<&Token>
     }
 }
 
-// The scope of the own name of a function that is a value.
-pub(crate) fn own_scope(alloc: Global, function: &Function) -> Result<Vec<&Token>, OutOfMemory>
-    ensures { IfOk result (λ scope. map (λ t. t.now) scope.items ≡ (seen.function function.now).own_name) }
+// The scope that stands around the parts of a node.
+pub(crate) fn scope_in<'t>(alloc: Global, node: Node<'t>) -> Result<Option<Scope<'t>>, OutOfMemory>
+    ensures { IfOk result (λ scope. scope ≡ seen.scope_in (node_of node.entry)) }
 {
-    let mut scope = Vec::new(alloc);
-    push_token(own_name(function), &mut scope)?;
-    Ok(scope)
+    match node {
+        Node::Expr(value) => scope_in_expr(alloc, value),
+        Node::Function(function) => scope_in_function(alloc, function),
+        _ => Ok(None),
+    }
+}
+
+fn scope_in_expr(alloc: Global, value: &Expr) -> Result<Option<Scope<'_>>, OutOfMemory>
+    ensures { IfOk result (λ scope. scope ≡ seen.scope_in_expr (out-Expr value.now)) }
+{
+    match value {
+        Expr::Fun { function } => {
+            let scope = own_scope(alloc, function.get())?;
+            Ok(Some(scope))
+        }
+        _ => Ok(None),
+    }
+}
+
+fn scope_in_function(alloc: Global, function: &Function) -> Result<Option<Scope<'_>>, OutOfMemory>
+    ensures { IfOk result (λ scope. scope ≡ Some (seen.body_scope false (seen.body_in (out-Function function.now)))) }
+{
+    match function {
+        Function::Keyword { body, .. } => {
+            let scope = body_scope(alloc, body.body.as_slice(), false)?;
+            Ok(Some(scope))
+        }
+    }
+}
+
+// The scope of the own name of a function that is a value.
+fn own_scope(alloc: Global, function: &Function) -> Result<Scope<'_>, OutOfMemory>
+    ensures { IfOk result (λ scope. scope ≡ seen.own_name function.now) }
+{
+    let mut tokens = Vec::new(alloc);
+    push_token(own_name(function), &mut tokens)?;
+    Scope::of(alloc, tokens)
 }
 
 // The scopes inside a scope of their own, innermost first.
-pub(crate) fn scopes_inside<'t>(
+pub(crate) fn scopes_inside<'a, 't>(
     alloc: Global,
-    own: &'t [&'t Token],
-    outer: &[&'t [&'t Token]],
-) -> Result<Vec<&'t [&'t Token]>, OutOfMemory>
-    ensures { IfOk result (λ scopes. scopes_of scopes.items ≡ map (λ t. t.now) own.now ∷ scopes_of outer.now) }
+    own: &'a Scope<'t>,
+    outer: &[&'a Scope<'t>],
+) -> Result<Vec<&'a Scope<'t>>, OutOfMemory>
+    ensures { IfOk result (λ scopes. scopes_of scopes.items ≡ own.now ∷ scopes_of outer.now) }
 {
     let mut scopes = Vec::new(alloc);
     scopes.push(own)?;
@@ -128,24 +210,12 @@ pub(crate) fn scopes_inside<'t>(
     Ok(scopes)
 }
 
-// The offset of the first token of the scope that is the name.
-pub(crate) fn first_in(name: &str, scope: &[&Token]) -> Option<u32>
-    ensures { result ≡ option_map (λ t. t.start) (names.first_in name.now (map (λ t. t.now) scope.now)) }
-{
-    for token in scope {
-        if token.text.as_str() == name {
-            return Some(token.start);
-        }
-    }
-    None
-}
-
 // The offset of the token that declares the name in the scopes, innermost first.
-pub(crate) fn declarer(name: &str, scopes: &[&[&Token]]) -> Option<u32>
+pub(crate) fn declarer(name: &str, scopes: &[&Scope<'_>]) -> Option<u32>
     ensures { result ≡ option_map (λ t. t.start) (names.declarer name.now (scopes_of scopes.now)) }
 {
     for scope in scopes {
-        let start = first_in(name, scope);
+        let start = scope.start_of(name);
         if start.is_some() {
             return start;
         }

@@ -1,5 +1,8 @@
 pub mod Characters
-pub mod Lexing
+pub mod Folds
 pub mod Kinds
+pub mod Lexing
+pub mod Parts
 pub mod Spelling
 pub mod Spells
+pub mod Lexical

@@ -3,11 +3,17 @@
 
 mod form;
 pub mod kind;
+mod node;
+mod part;
 mod token;
 mod tree;
+mod walk;
 
 pub use form::Form;
+pub use node::{Node, push_parts};
+pub use part::{EscapePart, NumberPart, RegexPart, StringPart, TemplatePart, TriviaPart};
 pub use token::{Token, TokenClass};
 pub use tree::{
     Arguments, Block, Expr, Function, Init, Listed, Params, Pattern, Slot, Stmt, Tail, Tree,
 };
+pub use walk::{Gather, walk_tree};

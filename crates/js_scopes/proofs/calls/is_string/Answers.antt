@@ -1,23 +1,19 @@
-use Rattle.std.proofs.Common.{ap, sym, ◌∙◌, is_some, Bool}
-use Rattle.js_scopes.specs.Scopes.{Scoped}
-use Rattle.js_scopes.specs.Scopes as seen
-use Rattle.js_scopes.proofs.Laws.{at-Assign, at-Chain, at-Value, at-Literal, at-Name}
+use Rattle.std.proofs.Common.{◌≡◌, false, refl, ap, sym, ◌∙◌, is_some}
+use Rattle.js_tree.specs.declared.token.Token.{Token}
+use Rattle.js_tree.specs.declared.tree.Expr.{out-Expr}
+use Rattle.js_tree.specs.declared.tree.Expr.TheOpen.{Expr-F}
+use Rattle.js_tree.specs.declared.tree.Expr.TheVariants.{outs-Literal}
+use Rattle.js_tree.specs.Folds.{ExprLayer}
+use Rattle.js_scopes.specs.Scopes.{string_in}
+use Rattle.js_scopes.proofs.Layers.{is-Literal}
 use Rattle.js_scopes.proofs.calls.is_string.Goals as goal
 
-abbrev has : Scoped → Bool
-has s = is_some s.string
-
-pub returns-in-Assign : goal.returns-in-Assign
-returns-in-Assign c = sym (ap has (ap seen.expr c.in-Assign.is ∙ at-Assign c.in-Assign.target c.in-Assign.op c.in-Assign.value))
-
-pub returns-in-Chain : goal.returns-in-Chain
-returns-in-Chain c = sym (ap has (ap seen.expr c.in-Chain.is ∙ at-Chain c.in-Chain.head c.in-Chain.tails))
-
-pub returns-in-Fun : goal.returns-in-Fun
-returns-in-Fun c = sym (ap has (ap seen.expr c.in-Fun.is ∙ at-Value c.in-Fun.function))
+others : (y : ExprLayer) → ((t : Token) → y ≡ Expr-F.Literal t → ⊥) → false ≡ is_some (string_in y)
+others (Expr-F.Literal t) never = absurd (never t refl)
+others _ never = refl
 
 pub returns-in-Literal : goal.returns-in-Literal
-returns-in-Literal c = c.is_string_token.ensures ∙ sym (ap has (ap seen.expr c.in-Literal.is ∙ at-Literal c.in-Literal.token))
+returns-in-Literal c = c.is_string_token.ensures ∙ sym (ap (λ y. is_some (string_in y)) (ap out-Expr c.in-Literal.is ∙ outs-Literal c.in-Literal.token))
 
-pub returns-in-Name : goal.returns-in-Name
-returns-in-Name c = sym (ap has (ap seen.expr c.in-Name.is ∙ at-Name c.in-Name.field-0))
+pub returns-in_default : goal.returns-in_default
+returns-in_default c = others (out-Expr c.args.value.now) (λ t e. c.in_default.not-Literal t (is-Literal c.args.value.now t e))

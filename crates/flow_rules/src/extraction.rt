@@ -1,0 +1,109 @@
+//! What a tree says of its values.
+ghost use Rattle.std.specs.Prelude.{◌≡◌, ℕ, IfOk, drop};
+ghost use Rattle.js_scopes.specs.AtHand.{known_in};
+ghost use Rattle.js_scopes.specs.Meanings.{meaning_in};
+ghost use Rattle.js_scopes.specs.Scopes.{binding_of, functions_of, known_of};
+ghost use Rattle.flow_rules.specs.Places.{number_in};
+ghost use Rattle.flow_rules.specs.Flows as seen;
+ghost use Rattle.flow_rules.specs.Numbered.{numbered_of, place_in};
+
+use crate::facts::{Facts, Numbers};
+use crate::flows::Flows;
+use crate::notes::{Notes, Standing};
+use crate::numbered::Numbered;
+use crate::required::Requires;
+use crate::{Constraints, Flow, ModuleNote, Require};
+use jam_base::{List, OutOfMemory};
+use js_scopes::{Bindings, FunctionInfo, Known, ascending, functions, sites_with};
+use js_tree::{Node, Tree, walk_tree};
+use std::alloc::Global;
+
+/// What a tree with these bindings says of its values: its functions, sites, requires, notes and flows,
+/// each list in its order and without repeats.
+pub fn constraints(
+    alloc: Global,
+    tree: &Tree,
+    bindings: &Bindings,
+) -> Result<Constraints, OutOfMemory>
+    requires { (start : ℕ) → meaning_in bindings.now start ≡ binding_of tree.now start }
+    ensures { IfOk result (λ made. made ≡ seen.constraints_of tree.now) }
+{
+    let functions = functions(alloc, tree)?;
+    let inner = behind_first(functions.as_slice());
+    if inner.len() >= 4294967295 {
+        return Err(OutOfMemory);
+    }
+    let known = Known::of(bindings, inner);
+    let sites = sites_with(alloc, tree, &known)?;
+    let requires_ = requires_of(alloc, tree, &known)?;
+    let notes = notes_of(alloc, tree, &known)?;
+    let flows = flows_of(alloc, tree, &known)?;
+    let made = Constraints::of(functions, sites, requires_, notes, flows);
+    match made {
+        Some(made) => Ok(made),
+        // This comes only where a list has 2^32 items, a text 2^32 bytes, or two calls of the tree have
+        // one offset and not as many arguments; a parsed text has one `(` at an offset.
+        None => Err(OutOfMemory),
+    }
+}
+
+// The functions but the first.
+fn behind_first(functions: &[FunctionInfo]) -> &[FunctionInfo]
+    ensures { result.now ≡ drop 1 functions.now }
+{
+    match functions {
+        [] => functions,
+        [_, inner @ ..] => inner,
+    }
+}
+
+// The requires of a tree of which this is known.
+fn requires_of(alloc: Global, tree: &Tree, known: &Known<'_>) -> Result<List<Require>, OutOfMemory>
+    requires { known_in known.now ≡ known_of tree.now }
+    ensures { IfOk result (λ made. made ≡ seen.requires_of tree.now) }
+{
+    let mut found = Vec::new(alloc);
+    let body = Node::Body(tree.body.as_slice());
+    walk_tree(alloc, &Requires { known }, body, 0, &mut found)?;
+    let found = ascending(alloc, found)?;
+    Ok(List::of(found))
+}
+
+// Its notes.
+fn notes_of(alloc: Global, tree: &Tree, known: &Known<'_>) -> Result<List<ModuleNote>, OutOfMemory>
+    requires { known_in known.now ≡ known_of tree.now }
+    ensures { IfOk result (λ made. made ≡ seen.notes_of tree.now) }
+{
+    let mut found = Vec::new(alloc);
+    let body = Node::Body(tree.body.as_slice());
+    walk_tree(alloc, &Notes { known }, body, Standing::Value, &mut found)?;
+    let found = ascending(alloc, found)?;
+    Ok(List::of(found))
+}
+
+// Its flows.
+fn flows_of(alloc: Global, tree: &Tree, known: &Known<'_>) -> Result<List<Flow>, OutOfMemory>
+    requires { known_in known.now ≡ known_of tree.now }
+    ensures { IfOk result (λ made. made ≡ seen.flows_of tree.now) }
+{
+    let numbers = numbers_of(alloc, tree)?;
+    let facts = Facts {
+        known,
+        numbers: &numbers,
+    };
+    let mut found = Vec::new(alloc);
+    let body = Node::Body(tree.body.as_slice());
+    walk_tree(alloc, &Flows { facts }, body, 0, &mut found)?;
+    let found = ascending(alloc, found)?;
+    Ok(List::of(found))
+}
+
+// The numbers of its numbered expressions.
+fn numbers_of(alloc: Global, tree: &Tree) -> Result<Numbers, OutOfMemory>
+    ensures { IfOk result (λ made. (offset : ℕ) → number_in made offset ≡ place_in (numbered_of tree.now) offset) }
+{
+    let mut numbered = Vec::new(alloc);
+    let body = Node::Body(tree.body.as_slice());
+    walk_tree(alloc, &Numbered, body, (), &mut numbered)?;
+    Numbers::of(alloc, numbered)
+}

@@ -1,0 +1,20 @@
+use Rattle.std.proofs.Common.{◌≡◌, Bool, List, [], refl, ap, sym, ◌∙◌}
+use Rattle.js_tree.specs.declared.token.Token.{Token}
+use Rattle.js_tree.specs.declared.tree.Expr.TheOpen.{Expr-F, Pattern-F, Stmt-F}
+use Rattle.js_tree.specs.declared.tree.Function.{Function}
+use Rattle.js_tree.specs.declared.tree.Pattern.{out-Pattern}
+use Rattle.js_tree.specs.declared.tree.Pattern.TheVariants.{outs-Name}
+use Rattle.js_tree.specs.Folds.{PatternLayer}
+use Rattle.js_scopes.specs.Scopes.{tokens_in_pattern}
+use Rattle.js_scopes.proofs.Layers.{is-Target}
+use Rattle.js_scopes.proofs.names.token_in_pattern.Goals as goal
+
+others : (y : PatternLayer) → ((t : Token) → y ≡ Pattern-F.«Pattern::Name» t → ⊥) → [] ≡ tokens_in_pattern y
+others (Pattern-F.«Pattern::Name» t) never = absurd (never t refl)
+others _ never = refl
+
+pub returns-in-Name : goal.returns-in-Name
+returns-in-Name c = sym (ap tokens_in_pattern (ap out-Pattern c.in-Name.is ∙ outs-Name c.in-Name.token))
+
+pub returns-in_default : goal.returns-in_default
+returns-in_default c = others (out-Pattern c.args.pattern.now) (λ t e. c.in_default.not-Name t (is-Target c.args.pattern.now t e))

@@ -1,8 +1,0 @@
-use Rattle.std.proofs.Common.{◌∷◌, ◌++◌, [], ap, ◌∙◌}
-use Rattle.js_scopes.specs.Walks.{in_stmts, scopes_of}
-use Rattle.js_scopes.proofs.naming.names_in.Goals as goal
-
-pub returns : goal.returns
-returns c n functions locals =
-    c.in_ok-push_stmts.ensures {u = tt} n (record { functions = functions; locals = locals })
-    ∙ (λ i. c.new-out.ensures.items i ++ in_stmts (λ x. x.names n (record { scopes = scopes_of ((c.as_slice.ensures.value ∙ (c.in_ok-push.ensures {u = tt}).items ∙ ap (λ xs. xs ++ c.args.scope ∷ []) c.new-scopes.ensures.items) i); holder = 0 })) (c.as_slice-2.ensures i))

@@ -1,0 +1,66 @@
+//! The meanings of the names of a module.
+ghost use Rattle.std.specs.Prelude.{◌≡◌, ℕ, [], ◌∷◌, map, nat_lt, IfOk};
+ghost use Rattle.std.specs.List.{count_by};
+ghost use Rattle.std.specs.List.Sorted.{IsNonDecreasingBy, IsNonDecreasing};
+ghost use Rattle.js_tree.specs.declared.token.Token.{Token as GhostToken};
+ghost use Rattle.js_tree.specs.Parts.{ABody};
+ghost use Rattle.js_scopes.specs.declared.function.FunctionInfo.{FunctionInfo as GhostInfo};
+ghost use Rattle.js_scopes.specs.Meanings.{meaning_in};
+ghost use Rattle.js_scopes.specs.Names.{Numbering};
+ghost use Rattle.js_scopes.specs.Names as names;
+ghost use Rattle.js_scopes.specs.Scopes.{binding_of, names_in};
+
+use crate::binding::BoundName;
+use crate::bindings::Bindings;
+use crate::declaration::Scope;
+use crate::declared::first_tokens;
+use crate::function::{FunctionInfo, inner_functions};
+use crate::names::{Numbers, Surroundings, push_node};
+use crate::scope::body_scope;
+use jam_base::OutOfMemory;
+use js_tree::{Node, Tree};
+use std::alloc::Global;
+
+/// What each name means that a tree uses or declares.
+pub fn bind(alloc: Global, tree: &Tree) -> Result<Bindings, OutOfMemory>
+    ensures { IfOk result (λ bindings. (start : ℕ) → meaning_in bindings start ≡ binding_of tree.now start) }
+{
+    let functions = inner_functions(alloc, tree)?;
+    let scope = body_scope(alloc, tree.body.as_slice(), true)?;
+    let mut starts = first_tokens(alloc, tree, &scope)?;
+    starts.sort_unstable();
+    let found = names_in(alloc, functions.as_slice(), starts.as_slice(), &scope, tree)?;
+    Bindings::of_names(alloc, found)
+}
+
+// The names of a tree, in the order of the text, where its body has this scope.
+fn names_in<'t>(
+    alloc: Global,
+    functions: &[FunctionInfo],
+    starts: &[u32],
+    scope: &Scope<'t>,
+    tree: &'t Tree,
+) -> Result<Vec<BoundName>, OutOfMemory>
+    requires functions { IsNonDecreasingBy (λ (f : GhostInfo). f.start) functions.now }
+    requires starts { IsNonDecreasing starts.now }
+    ensures { (n : Numbering) → n.functions ≡ functions.now → ((t : GhostToken) → names.local_number n t ≡ count_by (λ s. nat_lt s t.start) starts.now)
+        → IfOk result (λ found. found.items ≡ names_in n (ABody tree.now.body) (record { scopes = scope.now ∷ []; holder = 0 })) }
+{
+    if functions.len() >= 4294967295 {
+        return Err(OutOfMemory);
+    }
+    if starts.len() >= 4294967296 {
+        return Err(OutOfMemory);
+    }
+    let mut scopes = Vec::new(alloc);
+    scopes.push(scope)?;
+    let around = Surroundings {
+        scopes: scopes.as_slice(),
+        holder: 0,
+    };
+    let mut out = Vec::new(alloc);
+    let numbers = Numbers { functions, starts };
+    let body = Node::Body(tree.body.as_slice());
+    push_node(alloc, numbers, around, body, &mut out)?;
+    Ok(out)
+}

@@ -1,0 +1,17 @@
+use Rattle.std.proofs.Common.{◌++◌, map, ap, sym, ◌∙◌, append_assoc}
+use Rattle.js_tree.specs.Parts.{node_of, gathered, left_in}
+use Rattle.js_tree.specs.declared.walk.Pending.{Pending}
+use Rattle.js_tree.proofs.WalkLemmas.{left_last}
+use Rattle.js_tree.proofs.walk.walk_tree.Goals as goal
+
+pub loop-next-preserved : goal.loop-next-preserved
+loop-next-preserved g c =
+    let give = λ (p : Pending g.row.G-Around.Denot). gathered (g.G.Gather.own c.args.by.now) (g.G.Gather.inside c.args.by.now) (node_of p.node) (g.G.Gather.place p.around) in
+    let out = map g.G.Gather.given c.loop-next.out.items in
+    let next = give c.in-Some.next in
+    let rest = c.pop.new.self.items in
+    record {
+      empty = c.in_ok-visit.ensures.empty;
+      gathers = c.in_ok-visit.ensures.gathers ∙ append_assoc out next (left_in give rest)
+          ∙ ap (λ xs. out ++ xs) (sym (ap (left_in give) c.in-Some.ensures.items ∙ left_last give rest c.in-Some.next)) ∙ c.loop-next.invariant.gathers;
+    }
