@@ -1,32 +1,30 @@
 -- Modules without a tree.
-use Rattle.std.proofs.Common.{◌≡◌, ℕ, ◌∷◌, ◌++◌, List, map, sym, subst, Option, Some, None}
+use Rattle.std.proofs.Common.{refl, ◌≡◌, ℕ, ◌∷◌, ◌++◌, List, map, sym, subst, Option, Some, None}
 use Rattle.std.specs.Prelude.{All, Contains}
 use Rattle.std.proofs.lemmas.List.Elements.{All-contains, All-map, All-weaker, Contains-append_right}
 use Rattle.jam_base.specs.Files.{Files}
-use Rattle.jam_app.specs.declared.module.Parsed.{Parsed}
-use Rattle.jam_app.specs.declared.refusal.Refusal.TheVariants as refusal
-use Rattle.jam_app.specs.declared.source.Source.{Source}
-use Rattle.jam_app.specs.declared.stop.Stop.{Stop}
-use Rattle.jam_app.specs.declared.stop.Stop.TheVariants as stops
-use Rattle.jam_app.specs.declared.text.Bad.{Bad}
-use Rattle.jam_app.specs.declared.text.Bad.TheVariants as bad
-use Rattle.jam_app.specs.Progress.{HasBad, IsParsed, IsRefusedFor, not_in_profile, too_large}
+use Rattle.jam_app.specs.declared.loading.module.Parsed.{Parsed}
+use Rattle.jam_app.specs.declared.answers.refusal.Refusal.{Refusal}
+use Rattle.jam_app.specs.declared.answers.refusal.Refusal.TheVariants as refusal
+use Rattle.jam_app.specs.declared.loading.source.Source.{Source}
+use Rattle.jam_app.specs.declared.answers.stop.Stop.{Stop}
+use Rattle.jam_app.specs.declared.answers.stop.Stop.TheVariants as stops
+use Rattle.jam_app.specs.declared.loading.text.Bad.{Bad}
+use Rattle.jam_app.specs.declared.loading.text.Bad.TheVariants as bad
+use Rattle.jam_app.specs.Reading.{HasBad, IsParsed, IsRefusedFor, not_in_profile, too_large}
 use Rattle.jam_app.specs.Texts.{IsBad}
 use Rattle.composer.proofs.Members.{here}
-use Rattle.jam_app.proofs.Causes.{told}
-use Rattle.jam_app.specs.Work.{HasBadCause, HasStopCause, stop_of}
+use Rattle.jam_app.proofs.Causes.{any_files, refused_stop, told}
+use Rattle.jam_app.specs.Stops.{HasBadCause, HasStopCause, KeepsCount, StopsFor}
 
 -- a module that has no tree
-pub bad_stop : (path bytes : List ℕ) (b : Bad) (files : Option Files) (before now : ℕ) (stop : Stop) → HasBadCause bytes b → stop ≡ stop_of path b
+pub bad_stop : (path bytes : List ℕ) (b : Bad) (files : Option Files) (before now : ℕ) (stop : Stop) → HasBadCause bytes b → StopsFor path b stop
     → HasStopCause (λ m owed. IsRefusedFor path bytes owed) files before now stop
-bad_stop path bytes b files before now stop cause is = subst (HasStopCause (λ m owed. IsRefusedFor path bytes owed) files before now) (sym is) (by b cause files)
-  where
-    by : (b : Bad) → HasBadCause bytes b → (fs : Option Files) → HasStopCause (λ m owed. IsRefusedFor path bytes owed) fs before now (stop_of path b)
-    by bad.OutOfMemory cause fs = tt
-    by (bad.TooLarge n) cause None = tt
-    by (bad.TooLarge n) cause (Some m) = subst (λ k. IsRefusedFor path bytes (refusal.TooLarge path k)) (sym cause.1) (too_large cause.0)
-    by (bad.At place) cause None = tt
-    by (bad.At place) cause (Some m) = not_in_profile place.offset cause.0 cause.1 cause.2
+bad_stop path bytes bad.OutOfMemory files before now stop cause is = subst (HasStopCause (λ m owed. IsRefusedFor path bytes owed) files before now) (sym is) tt
+bad_stop path bytes (bad.TooLarge n) files before now stop cause is =
+    refused_stop (λ m owed. IsRefusedFor path bytes owed) (refusal.TooLarge path n) files before now stop is (any_files files (λ m. subst (λ k. IsRefusedFor path bytes (refusal.TooLarge path k)) (sym cause.1) (too_large cause.0)))
+bad_stop path bytes (bad.At place) files before now stop cause is =
+    refused_stop (λ m owed. IsRefusedFor path bytes owed) (refusal.NotInProfile path place.offset) files before now stop is (any_files files (λ m. not_in_profile place.offset cause.0 cause.1 cause.2))
 
 -- files that have a tree aren't bad
 none_bad : (parsed : List Parsed) (sources : List Source) → map (λ (p : Parsed). p.source) parsed ≡ sources → All IsParsed parsed → All (λ s. IsBad s.bytes.items → ⊥) sources
@@ -43,7 +41,13 @@ bad_in parsed sources done source behind are read parts stop cause files before 
     by : (s : Stop) → HasStopCause (λ m owed. IsRefusedFor source.path source.bytes.items owed) files before now s → HasStopCause (λ m owed. HasBad sources owed) files before now s
     by stops.ReadFault c = c
     by stops.OutOfMemory c = tt
-    by (stops.Refused owed place) c = told files c (λ m refused. record { front = done; source = source; behind = behind; parts = parts; none_bad = none_bad parsed done are read; refused = refused })
+    by (stops.Refused owed line) c = (told files c.0 (λ m refused. record { front = done; source = source; behind = behind; parts = parts; none_bad = none_bad parsed done are read; refused = refused }), c.1)
+
+-- a stop that came with no call of the folder is no fault of it
+pub no_fault : (P : Files → Refusal → Type 0) (stop : Stop) → ((files : Option Files) (before now : ℕ) → HasStopCause P files before now stop) → (n : ℕ) → KeepsCount n n stop
+no_fault P stops.ReadFault cause n = tt
+no_fault P stops.OutOfMemory cause n = refl
+no_fault P (stops.Refused owed line) cause n = refl
 
 -- an item of a list of which all are so
 pub all_at : {X : Type 0} (P : X → Type 0) (all done : List X) (x : X) (behind : List X) → all ≡ done ++ x ∷ behind → All P all → P x

@@ -6,15 +6,18 @@ use Rattle.jam_base.specs.Causes.{Rose}
 use Rattle.jam_base.specs.Files.{Files}
 use Rattle.node_resolve.specs.declared.target.Target.{Target}
 use Rattle.node_resolve.specs.Targets.{entry_target}
-use Rattle.jam_app.specs.declared.refusal.Refusal.{Refusal}
-use Rattle.jam_app.specs.declared.refusal.Refusal.TheVariants as refusal
-use Rattle.jam_app.specs.declared.stop.Stop.{Stop}
-use Rattle.jam_app.specs.declared.stop.Stop.TheVariants.{ReadFault, OutOfMemory, Refused}
+use Rattle.jam_app.specs.declared.answers.refusal.Refusal.{Refusal}
+use Rattle.jam_app.specs.declared.answers.refusal.Refusal.TheVariants as refusal
+use Rattle.jam_app.specs.declared.answers.stop.Stop.{Stop}
+use Rattle.jam_app.specs.declared.answers.stop.Stop.TheVariants.{ReadFault, OutOfMemory, Refused}
 use Rattle.jam_app.specs.Entries.{module_path}
 use Rattle.jam_app.specs.Refusals.{IsRefusal, no_entry}
-use Rattle.jam_app.specs.declared.status.Status.{Status}
+use Rattle.jam_app.specs.declared.answers.status.Status.{Status}
+use Rattle.jam_app.specs.declared.answers.status.Status.TheVariants as statuses
+use Rattle.jam_app.specs.declared.answers.status.Status.TheVariants.{Clean, Alarms, WriteFault, NoMemory, Usage}
 use Rattle.jam_app.specs.Outcomes.{RefusesAlways}
-use Rattle.jam_app.specs.Work.{Gives, HasStopCause, IsOwed}
+use Rattle.jam_app.specs.Stops.{CountsFaults, Gives, HasStopCause, IsOwed, KeepsCount, Refuses}
+use Rattle.jam_app.specs.Lines.{TellsRefusal}
 
 -- what follows from one fact, or from two, of the files that a folder may tell
 pub told : {P Q : Files → Type 0} (files : Option Files) → IfSome files P → ((m : Files) → P m → Q m) → IfSome files Q
@@ -42,12 +45,41 @@ stop_after P Q first files before mid now stop same later means cause =
     by : (s : Stop) → HasStopCause P first mid now s → HasStopCause Q first before now s
     by ReadFault c = rose_later before mid now later c
     by OutOfMemory c = tt
-    by (Refused owed place) c = both_told first means c (λ m f p. f owed p)
+    by (Refused owed line) c = (both_told first means c.0 (λ m f p. f owed p), c.1)
+
+-- a stop for a refusal that the files give
+pub refused_stop : (P : Files → Refusal → Type 0) (owed : Refusal) (files : Option Files) (before now : ℕ) (stop : Stop) → Refuses owed stop → IfSome files (λ m. P m owed) → HasStopCause P files before now stop
+refused_stop P owed files before now ReadFault is gives = absurd is
+refused_stop P owed files before now OutOfMemory is gives = absurd is
+refused_stop P owed files before now (Refused answered line) is gives =
+    (told files gives (λ m p. subst (P m) (sym is.0) p), subst (λ r. TellsRefusal r line) (sym is.0) is.1)
 
 -- an operand whose target isn't a module
-pub no_module : (operand : List ℕ) (files : Option Files) (found : Target) (path : Option (List ℕ)) → IfSome files (λ m. found ≡ entry_target m (Some operand))
-    → path ≡ module_path found → path ≡ None → IfSome files (λ m. IsRefusal operand m refusal.NoEntry)
-no_module operand files found path is named none = told files is (λ m e. no_entry (ap module_path (sym e) ∙ sym named ∙ none))
+pub no_module : (operand : List ℕ) (files : Option Files) (before now : ℕ) (stop : Stop) (found : Target) (path : Option (List ℕ)) → IfSome files (λ m. found ≡ entry_target m (Some operand))
+    → path ≡ module_path found → path ≡ None → Refuses refusal.NoEntry stop → HasStopCause (IsRefusal operand) files before now stop
+no_module operand files before now stop found path is named none refuses =
+    refused_stop (IsRefusal operand) refusal.NoEntry files before now stop refuses (told files is (λ m e. no_entry (ap module_path (sym e) ∙ sym named ∙ none)))
+
+-- where the count stands still, any stop keeps it
+pub kept_count : (before now : ℕ) (stop : Stop) → now ≡ before → KeepsCount before now stop
+kept_count before now ReadFault same = tt
+kept_count before now OutOfMemory same = same
+kept_count before now (Refused refusal line) same = same
+
+pub counts_stop : {X : Type 0} (before now : ℕ) (stop : Stop) → now ≡ before → CountsFaults {X = X} before now (Err stop)
+counts_stop before now stop same = record { later = omega (arith, same); done = tt; stopped = kept_count before now stop same }
+
+pub counts_of : {X : Type 0} (n : ℕ) (stop : Stop) → KeepsCount n n stop → CountsFaults {X = X} n n (Err stop)
+counts_of n stop kept = record { later = omega arith; done = tt; stopped = kept }
+
+-- the count of a stop that is handed on, behind calls that left it as it was
+pub counts_on : {X Y : Type 0} (before mid now : ℕ) (stop : Stop) (result : Result Y Stop) → IsErrAnd result (λ e. e ≡ stop) → mid ≡ before → CountsFaults {X = X} mid now (Err stop) → CountsFaults before now result
+counts_on before mid now stop (Ok y) is same counts = absurd is
+counts_on before mid now stop (Err e) is same counts = record {
+  later = omega (arith, counts.later, same);
+  done = tt;
+  stopped = subst (KeepsCount before now) (sym is) (subst (λ n. KeepsCount n now stop) same counts.stopped);
+}
 
 -- a stop that is handed on
 pub handed_on : {X : Type 0} (owed : Files → X → Type 0) (P Q : Files → Refusal → Type 0) (first files : Option Files) (before mid now : ℕ) (stop : Stop) (result : Result X Stop)
@@ -58,7 +90,16 @@ handed_on owed P Q first files before mid now stop (Ok x) is same later means ca
 
 -- where a text is owed, no refusal is, so any status will do
 pub refuses_none : (status : Status) (operand text : List ℕ) (files : Option Files) → IfSome files (λ m. IsOwed operand m text) → IfSome files (λ m. RefusesAlways status operand m)
-refuses_none status operand text files is = told files is (λ m owed refusal refused. absurd (owed.unrefused refusal refused))
+refuses_none status operand text files is = told files is (λ m owed. unrefused status m owed)
+  where
+    unrefused : (s : Status) (m : Files) → IsOwed operand m text → RefusesAlways s operand m
+    unrefused Clean m owed = owed.unrefused
+    unrefused Alarms m owed = owed.unrefused
+    unrefused WriteFault m owed = owed.unrefused
+    unrefused Usage m owed = owed.unrefused
+    unrefused (statuses.Refused r) m owed = tt
+    unrefused statuses.ReadFault m owed = tt
+    unrefused NoMemory m owed = tt
 
 -- what holds of a stop that is handed on
 pub stop_handed : {X : Type 0} (P : Stop → Type 0) (stop : Stop) (result : Result X Stop) → IsErrAnd result (λ e. e ≡ stop) → P stop → IfErr result P

@@ -14,8 +14,8 @@ use Rattle.std.proofs.lemmas.List.Sorted.{Contains-permutation, IsPermutation-sy
 use Rattle.std.proofs.lemmas.Map.Lookups.{exact_bytes}
 use Rattle.std.proofs.lemmas.Map.Views.{tells_apart}
 use Rattle.composer.proofs.Members.{none, here, there, cons_cases}
-use Rattle.jam_app.specs.declared.loaded.Loaded.{Loaded}
-use Rattle.jam_app.specs.Progress.{found_at}
+use Rattle.jam_app.specs.declared.loading.loaded.Loaded.{Loaded}
+use Rattle.jam_app.specs.BetweenRounds.{found_at}
 use Rattle.jam_app.specs.Rounds.{Ascend}
 
 -- the path isn't loaded yet

@@ -11,8 +11,8 @@ use Rattle.std.proofs.lemmas.Map.Lookups.{exact_bytes}
 use Rattle.std.proofs.lemmas.Map.Views.{tells_apart}
 use Rattle.std.proofs.lemmas.Option.{same_Some}
 use Rattle.composer.proofs.Members.{none}
-use Rattle.jam_app.specs.declared.loaded.Loaded.{Loaded}
-use Rattle.jam_app.specs.Progress.{found_at}
+use Rattle.jam_app.specs.declared.loading.loaded.Loaded.{Loaded}
+use Rattle.jam_app.specs.BetweenRounds.{found_at}
 
 -- the path of a module
 abbrev pub path_of : Loaded → List ℕ

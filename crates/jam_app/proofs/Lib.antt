@@ -4,6 +4,7 @@ pub mod Ends
 pub mod Following
 pub mod Keeping
 pub mod LinkLemmas
+pub mod OneRefusal
 pub mod Pieces
 pub mod PrintLemmas
 pub mod Refusing
@@ -12,5 +13,6 @@ pub mod Sizes
 pub mod Standing
 pub mod Steps
 pub mod Targets
+pub mod Telling
 pub mod Whole
 pub mod WholeGraph

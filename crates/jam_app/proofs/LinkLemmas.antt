@@ -16,10 +16,10 @@ use Rattle.std.proofs.lemmas.List.Sorted.{searchable_from_sorted}
 use Rattle.std.proofs.lemmas.Map.Keys.{Less-from_sorted}
 use Rattle.std.proofs.lemmas.Map.Lookups.{exact_bytes}
 use Rattle.composer.specs.declared.application.Link.{Link}
-use Rattle.jam_app.specs.declared.loaded.Led.{Led}
-use Rattle.jam_app.specs.declared.loaded.Loaded.{Loaded}
+use Rattle.jam_app.specs.declared.loading.loaded.Led.{Led}
+use Rattle.jam_app.specs.declared.loading.loaded.Loaded.{Loaded}
 use Rattle.jam_app.specs.Rounds.{Ascend}
-use Rattle.jam_app.specs.Parts.{Adds, LinksAmong, LinksBelow, LinksOf, StandsAt}
+use Rattle.jam_app.specs.Links.{Adds, LinksAmong, LinksBelow, LinksOf, StandsAt}
 
 abbrev order : List ℕ → List ℕ → Ordering
 order = slice_cmp nat_cmp

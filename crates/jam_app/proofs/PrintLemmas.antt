@@ -2,7 +2,7 @@
 use Rattle.std.proofs.Common.{◌≡◌, ℕ, ◌+◌, ◌<◌, List, [], ◌∷◌, ◌++◌, map, length, take, get_or, refl, sym, ap, ◌∙◌, arith, append_assoc}
 use Rattle.std.specs.Prelude.{slice_get, Some, None}
 use Rattle.jam_base.specs.declared.edge.Edge.{Edge}
-use Rattle.jam_app.specs.Parts.{PrintedModule, call_in, edge_among, function_among}
+use Rattle.jam_app.specs.Printing.{PrintedModule, call_in, edge_among, function_among}
 use Rattle.std.proofs.lemmas.List.{take_more, map-append, get_or-map, length-map}
 
 -- items at one place of lists that are seen alike are seen alike

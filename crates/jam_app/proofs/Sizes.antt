@@ -1,18 +1,17 @@
 -- How many modules there are, and how many bytes they have.
-use Rattle.std.proofs.Common.{◌≡◌, ℕ, ◌+◌, ◌<◌, ◌≤◌, true, List, [], ◌∷◌, ◌++◌, length, nat_lt, ap, sym, subst, ◌∙◌, arith, add_assoc, zero-add, length-append, append_assoc, cond, map, Option, None}
+use Rattle.std.proofs.Common.{◌≡◌, ℕ, ◌+◌, ◌<◌, ◌≤◌, true, false, List, [], ◌∷◌, ◌++◌, length, nat_lt, ap, sym, subst, ◌∙◌, arith, add_assoc, add-zero, zero-add, length-append, append_assoc, cond, map, Option, None}
 use Rattle.std.specs.Option.{IfSome}
 use Rattle.std.proofs.lemmas.List.{append-nil, map-append}
 use Rattle.std.proofs.lemmas.Bool.Decides.{nat_tests}
 use Rattle.jam_base.specs.Files.{Files}
-use Rattle.jam_app.specs.declared.refusal.Refusal.{Refusal}
-use Rattle.jam_app.specs.declared.refusal.Refusal.TheVariants as refusal
-use Rattle.jam_app.specs.declared.size.Size.{Size}
-use Rattle.jam_app.specs.declared.source.Source.{Source}
-use Rattle.jam_app.specs.declared.stop.Stop.{Stop}
-use Rattle.jam_app.specs.declared.stop.Stop.TheVariants.{Refused}
-use Rattle.jam_app.specs.Progress.{HasExcess, IsExcess, file_at, file_of, size_of}
-use Rattle.jam_app.specs.Work.{HasStopCause}
-use Rattle.jam_app.proofs.Causes.{told}
+use Rattle.jam_app.specs.declared.answers.refusal.Refusal.{Refusal}
+use Rattle.jam_app.specs.declared.answers.refusal.Refusal.TheVariants as refusal
+use Rattle.jam_app.specs.declared.loading.size.Size.{Size}
+use Rattle.jam_app.specs.declared.loading.source.Source.{Source}
+use Rattle.jam_app.specs.declared.answers.stop.Stop.{Stop}
+use Rattle.jam_app.specs.Reading.{HasExcess, IsExcess, file_at, file_of, size_of}
+use Rattle.jam_app.specs.Stops.{HasStopCause, Refuses}
+use Rattle.jam_app.proofs.Causes.{any_files, refused_stop, told}
 use Rattle.jam_app.specs.Rounds.{bytes_at, module_limit, total_bytes}
 
 pub total_append : (m : Files) (xs ys : List (List ℕ)) → total_bytes m (xs ++ ys) ≡ total_bytes m xs + total_bytes m ys
@@ -47,6 +46,29 @@ excess_bytes m size earlier path bytes few room over read is =
     is_below : (n : ℕ) → n + 1 ≤ 16384 → nat_lt n module_limit ≡ true
     is_below n h = grind (arith, nat_tests)
 
+-- a module for which there is no room
+pub excess_modules : (m : Files) (size : Size) (earlier : List (List ℕ)) (path : List ℕ) → size.modules ≤ 16384 → 16384 < size.modules + 1 → size.bytes ≤ 67108864
+    → size ≡ size_of m earlier → IsExcess m earlier path (refusal.TooMany (size.modules + 1) size.bytes)
+excess_modules m size earlier path few over room is =
+    let modules : size.modules ≡ length earlier = ap (λ (s : Size). s.modules) is in
+    let all : size.bytes ≡ total_bytes m earlier = ap (λ (s : Size). s.bytes) is in
+    record {
+      fit = record { modules = omega arith; bytes = omega arith };
+      over = λ fits. absurd (omega (arith, fits.modules, length-append earlier (path ∷ [])));
+      is = (λ i. refusal.TooMany (modules i + 1) (all i))
+          ∙ ap (refusal.TooMany (length earlier + 1)) (sym (add-zero (total_bytes m earlier)) ∙ ap (λ b. total_bytes m earlier + cond b (length (bytes_at m path)) 0) (sym (not_below (length earlier) (omega arith))));
+    }
+  where
+    not_below : (n : ℕ) → 16384 ≤ n → nat_lt n module_limit ≡ false
+    not_below n h = grind (arith, nat_tests)
+
+-- the stop for it
+pub excess_modules_stop : (size : Size) (path : List ℕ) (files : Option Files) (before now : ℕ) (stop : Stop) → size.modules ≤ 16384 → 16384 < size.modules + 1 → size.bytes ≤ 67108864
+    → Refuses (refusal.TooMany (size.modules + 1) size.bytes) stop → HasStopCause (λ m owed. (earlier : List (List ℕ)) → size ≡ size_of m earlier → IsExcess m earlier path owed) files before now stop
+excess_modules_stop size path files before now stop few over room is =
+    refused_stop (λ m owed. (earlier : List (List ℕ)) → size ≡ size_of m earlier → IsExcess m earlier path owed) (refusal.TooMany (size.modules + 1) size.bytes) files before now stop is
+    (any_files files (λ m earlier of. excess_modules m size earlier path few over room of))
+
 -- what stands after some files of a round were read: their sources, and the size with them
 pub record Taken (m : Files) (start size : Size) (sources : List Source) (done : List (List ℕ)) : Type 0 where
   pub files : map file_of sources ≡ map (file_at m) done
@@ -76,11 +98,11 @@ excess_in m start size sources round done path behind owed taken parts excess ea
 -- the stop for a file with more bytes than there is room for
 pub excess_stop : (size : Size) (path bytes : List ℕ) (files : Option Files) (before now vec_len n : ℕ) (stop : Stop) → vec_len ≡ length bytes → n ≡ vec_len
     → size.modules + 1 ≤ 16384 → size.bytes ≤ 67108864 → 67108864 < size.bytes + n → IfSome files (λ m. bytes ≡ bytes_at m path)
-    → stop ≡ Refused (refusal.TooMany (size.modules + 1) (size.bytes + n)) None
+    → Refuses (refusal.TooMany (size.modules + 1) (size.bytes + n)) stop
     → HasStopCause (λ m owed. (earlier : List (List ℕ)) → size ≡ size_of m earlier → IsExcess m earlier path owed) files before now stop
 excess_stop size path bytes files before now vec_len n stop ok len few room over read is =
     let long : n ≡ length bytes = len ∙ ok in
     let P : Files → Refusal → Type 0 = λ m owed. (earlier : List (List ℕ)) → size ≡ size_of m earlier → IsExcess m earlier path owed in
-    subst (HasStopCause P files before now) (sym is)
+    refused_stop P (refusal.TooMany (size.modules + 1) (size.bytes + n)) files before now stop is
     (told files read (λ m r earlier of. subst (λ k. IsExcess m earlier path (refusal.TooMany (size.modules + 1) (size.bytes + k))) (sym long)
     (excess_bytes m size earlier path bytes few room (omega (arith, over, long)) r of)))

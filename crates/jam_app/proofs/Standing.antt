@@ -9,10 +9,10 @@ use Rattle.node_resolve.specs.declared.target.Target.TheVariants as target
 use Rattle.node_resolve.specs.Targets.{target_of}
 use Rattle.composer.proofs.Members.{from_flat_map, from_map, into_flat_map, into_map, none}
 use Rattle.js_tree.specs.declared.tree.Tree.{Tree}
-use Rattle.jam_app.specs.declared.loaded.Led.{Led}
-use Rattle.jam_app.specs.declared.loaded.Loaded.{Loaded}
-use Rattle.jam_app.specs.declared.source.Source.{Source}
-use Rattle.jam_app.specs.Progress.{IsRead, file_at, file_of, led_from, source_of}
+use Rattle.jam_app.specs.declared.loading.loaded.Led.{Led}
+use Rattle.jam_app.specs.declared.loading.loaded.Loaded.{Loaded}
+use Rattle.jam_app.specs.declared.loading.source.Source.{Source}
+use Rattle.jam_app.specs.Reading.{IsRead, file_at, file_of, led_from, source_of}
 use Rattle.jam_app.specs.Rounds.{Ascend, IsNextRound, IsRequiredAmong, IsTreeOf, NoneBad, bad, bytes_at, spelled}
 use Rattle.jam_app.specs.Texts.{IsBad, IsSpelled}
 use Rattle.jam_app.proofs.Keeping.{path_of}

@@ -7,13 +7,14 @@ use Rattle.std.proofs.lemmas.List.Elements.{All-append, All-contains, All-cons, 
 use Rattle.js_tree.specs.Spells.{limit}
 use Rattle.jam_base.specs.Files.{Files}
 use Rattle.composer.proofs.Members.{here}
-use Rattle.jam_app.specs.declared.loaded.Loaded.{Loaded}
-use Rattle.jam_app.specs.declared.refusal.Refusal.{Refusal}
-use Rattle.jam_app.specs.declared.rounds.Progress.{Progress}
-use Rattle.jam_app.specs.declared.size.Size.{Size}
-use Rattle.jam_app.specs.declared.source.Source.{Source}
-use Rattle.jam_app.specs.Progress as progress
-use Rattle.jam_app.specs.Progress.{HasBad, HasExcess, IsHeld, IsRead, IsRefusedFor, Stands, file_at, file_of, found_at, led_from, size_of, source_of}
+use Rattle.jam_app.specs.declared.loading.loaded.Loaded.{Loaded}
+use Rattle.jam_app.specs.declared.answers.refusal.Refusal.{Refusal}
+use Rattle.jam_app.specs.declared.loading.rounds.Progress.{Progress}
+use Rattle.jam_app.specs.declared.loading.size.Size.{Size}
+use Rattle.jam_app.specs.declared.loading.source.Source.{Source}
+use Rattle.jam_app.specs.Reading as reading
+use Rattle.jam_app.specs.Reading.{HasBad, HasExcess, IsRead, IsRefusedFor, file_at, file_of, led_from, size_of, source_of}
+use Rattle.jam_app.specs.BetweenRounds.{IsHeld, Stands, found_at}
 use Rattle.jam_app.specs.Refusals.{IsFirstBad, IsRefusal, not_in_profile, too_large, too_many}
 use Rattle.jam_app.specs.Rounds.{Ascend, Fits, IsRound, NoneBad, bytes_at, total_bytes}
 use Rattle.jam_app.specs.Texts.{IsBad}
@@ -75,12 +76,12 @@ large_bad : (bytes : List ℕ) → limit < length bytes → IsBad bytes
 large_bad bytes over tree s = absurd (omega (arith, over, s.spells.fits))
 
 is_bad : (path bytes : List ℕ) (owed : Refusal) → IsRefusedFor path bytes owed → IsBad bytes
-is_bad path bytes owed (progress.too_large over) = large_bad bytes over
-is_bad path bytes owed (progress.not_in_profile at none within refused) = none
+is_bad path bytes owed (reading.too_large over) = large_bad bytes over
+is_bad path bytes owed (reading.not_in_profile at none within refused) = none
 
 refuses_for : (m : Files) (operand path : List ℕ) (owed : Refusal) → IsFirstBad operand m path → IsRefusedFor path (bytes_at m path) owed → IsRefusal operand m owed
-refuses_for m operand path owed first (progress.too_large over) = too_large path first over
-refuses_for m operand path owed first (progress.not_in_profile at none within refused) = not_in_profile path at first within refused
+refuses_for m operand path owed first (reading.too_large over) = too_large path first over
+refuses_for m operand path owed first (reading.not_in_profile at none within refused) = not_in_profile path at first within refused
 
 -- the first bad module of a round is refused
 pub refuses_bad : (m : Files) (operand : List ℕ) (old : Progress) (new : Size) (sources : List Source) (round : List (List ℕ)) (owed : Refusal) → Stands operand m old round

@@ -14,11 +14,11 @@ use Rattle.node_resolve.specs.declared.target.Target.{Target}
 use Rattle.node_resolve.specs.declared.target.Target.TheVariants as target
 use Rattle.node_resolve.specs.Targets.{target_of}
 use Rattle.composer.proofs.Members.{none, here, there, cons_cases}
-use Rattle.jam_app.specs.declared.loaded.Led.{Led}
-use Rattle.jam_app.specs.declared.loaded.Loaded.{Loaded}
+use Rattle.jam_app.specs.declared.loading.loaded.Led.{Led}
+use Rattle.jam_app.specs.declared.loading.loaded.Loaded.{Loaded}
 use Rattle.jam_app.specs.Entries.{module_path}
 use Rattle.jam_app.specs.Loading.{Leads}
-use Rattle.jam_app.specs.Progress.{IsRead, led_by, led_to}
+use Rattle.jam_app.specs.Reading.{IsRead, led_by, led_to}
 use Rattle.jam_app.specs.Texts.{IsOnlyTree}
 
 cons_is : {X : Type 0} (o : Option X) (xs : List X) → cons_option o xs ≡ option_to_list o ++ xs

@@ -15,13 +15,13 @@ use Rattle.std.proofs.lemmas.Map.Views.{All-found, btree_map_contains_key_iff}
 use Rattle.std.proofs.lemmas.Option.{none-some, same_Some}
 use Rattle.jam_base.specs.Files.{Files}
 use Rattle.composer.proofs.Members.{here, none}
-use Rattle.jam_app.specs.declared.loaded.Loaded.{Loaded}
-use Rattle.jam_app.specs.declared.refusal.Refusal.{Refusal}
-use Rattle.jam_app.specs.declared.rounds.Progress.{Progress}
+use Rattle.jam_app.specs.declared.loading.loaded.Loaded.{Loaded}
+use Rattle.jam_app.specs.declared.answers.refusal.Refusal.{Refusal}
+use Rattle.jam_app.specs.declared.loading.rounds.Progress.{Progress}
 use Rattle.jam_app.specs.Entries.{entry_path}
 use Rattle.jam_app.specs.Loading.{IsKept, IsWhole, module_of}
-use Rattle.jam_app.specs.Parts.{IsAnalysed}
-use Rattle.jam_app.specs.Progress.{HoldsAnalysed, Stands, found_at}
+use Rattle.jam_app.specs.Loading.{IsAnalysed}
+use Rattle.jam_app.specs.BetweenRounds.{HoldsAnalysed, Stands, found_at}
 use Rattle.jam_app.specs.Refusals.{IsFirstBad, IsOneTooMany, IsReached, IsRefusal, no_entry, not_in_profile, too_large, too_many}
 use Rattle.jam_app.specs.Rounds.{Ascend, Fits, IsModuleOf, IsRound, LoadedModule, bytes_at, spelled, total_bytes}
 use Rattle.jam_app.specs.Texts.{IsBad}
@@ -51,7 +51,7 @@ stands_first m operand entry progress found empty size = record {
     is_held : List ℕ → List (List ℕ × Loaded) → Bool
     is_held path es = is_some (held_in path es)
 
-prefix_fits : (m : Files) (all xs rest : List (List ℕ)) → all ≡ xs ++ rest → Fits m all → Fits m xs
+pub prefix_fits : (m : Files) (all xs rest : List (List ℕ)) → all ≡ xs ++ rest → Fits m all → Fits m xs
 prefix_fits m all xs rest parts fits =
     let long : length all ≡ length xs + length rest = ap length parts ∙ length-append xs rest in
     let total : total_bytes m all ≡ total_bytes m xs + total_bytes m rest = ap (total_bytes m) parts ∙ total_append m xs rest in

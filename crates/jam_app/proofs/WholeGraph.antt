@@ -17,11 +17,12 @@ use Rattle.composer.specs.Edges.{IsEdgeList}
 use Rattle.report_text.specs.declared.shown.PathStep.{PathStep}
 use Rattle.report_text.specs.declared.shown.Shown.{Shown}
 use Rattle.report_text.specs.Graph.{graph_text_of}
-use Rattle.jam_app.specs.declared.loaded.Led.{Led}
-use Rattle.jam_app.specs.declared.loaded.Loaded.{Loaded}
+use Rattle.jam_app.specs.declared.loading.loaded.Led.{Led}
+use Rattle.jam_app.specs.declared.loading.loaded.Loaded.{Loaded}
 use Rattle.jam_app.specs.Graphs.{IsGraphText, nowhere, shown_call, shown_edge, shown_function, shown_in, shown_number}
 use Rattle.jam_app.specs.Loading.{IsKept, IsWhole, Leads, module_of}
-use Rattle.jam_app.specs.Parts.{Adds, LinksBelow, PrintedModule, call_in, edge_among, function_among, printed_of}
+use Rattle.jam_app.specs.Links.{Adds, LinksBelow}
+use Rattle.jam_app.specs.Printing.{PrintedModule, call_in, edge_among, function_among, printed_of}
 use Rattle.jam_app.specs.Rounds.{AreLinks, IsLink, LoadedModule}
 
 -- the function with a number, in a list of printed ones and as it is printed

@@ -5,9 +5,9 @@ use Rattle.flow_rules.specs.declared.module.Require.{Require}
 use Rattle.flow_rules.specs.Flows.{constraints_of, requires_of}
 use Rattle.node_resolve.specs.declared.target.Target.TheVariants.{Module}
 use Rattle.node_resolve.specs.Targets.{target_of}
-use Rattle.jam_app.specs.declared.loaded.Led.{Led}
-use Rattle.jam_app.specs.declared.loaded.Loaded.{Loaded}
-use Rattle.jam_app.specs.declared.refusal.Refusal.{Refusal}
+use Rattle.jam_app.specs.declared.loading.loaded.Led.{Led}
+use Rattle.jam_app.specs.declared.loading.loaded.Loaded.{Loaded}
+use Rattle.jam_app.specs.declared.answers.refusal.Refusal.{Refusal}
 use Rattle.jam_app.specs.Entries.{entry_path}
 use Rattle.jam_app.specs.Refusals.{IsRefusal}
 use Rattle.jam_app.specs.Rounds.{LoadedModule, IsApplication}
@@ -16,6 +16,11 @@ use Rattle.jam_app.specs.Texts.{IsSpelled}
 -- the module
 abbrev pub module_of : Loaded → LoadedModule
 module_of l = record { path = l.path; bytes = l.bytes.items; tree = l.tree }
+
+-- the text of the module has its tree, whose constraints these are
+pub record IsAnalysed (l : Loaded) : Type 0 where
+  pub spelled : IsSpelled l.bytes.items l.tree
+  pub constraints : l.constraints ≡ constraints_of l.tree
 
 -- a require of the module leads there
 pub record Leads (files : Files) (l : Loaded) (led : Led) : Type 0 where

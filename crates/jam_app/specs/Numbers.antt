@@ -1,7 +1,7 @@
 -- The exit statuses of the program.
 use Rattle.std.specs.Prelude.{ℕ}
-use Rattle.jam_app.specs.declared.status.Status.{Status}
-use Rattle.jam_app.specs.declared.status.Status.TheVariants.{Clean, Alarms, Refused, ReadFault, WriteFault, NoMemory, Usage}
+use Rattle.jam_app.specs.declared.answers.status.Status.{Status}
+use Rattle.jam_app.specs.declared.answers.status.Status.TheVariants.{Clean, Alarms, Refused, ReadFault, WriteFault, NoMemory, Usage}
 
 abbrev pub number_of : Status → ℕ
 number_of Clean = 0

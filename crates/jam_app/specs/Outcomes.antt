@@ -5,9 +5,9 @@ use Rattle.jam_base.specs.Files.{Files}
 use Rattle.jam_app.specs.Graphs.{IsGraphText}
 use Rattle.jam_app.specs.Refusals.{IsRefusal}
 use Rattle.jam_app.specs.Written.{TakesAll, TakesFront}
-use Rattle.jam_app.specs.declared.refusal.Refusal.{Refusal}
-use Rattle.jam_app.specs.declared.status.Status.{Status}
-use Rattle.jam_app.specs.declared.status.Status.TheVariants.{Clean, Alarms, Refused, ReadFault, WriteFault, NoMemory, Usage}
+use Rattle.jam_app.specs.declared.answers.refusal.Refusal.{Refusal}
+use Rattle.jam_app.specs.declared.answers.status.Status.{Status}
+use Rattle.jam_app.specs.declared.answers.status.Status.TheVariants.{Clean, Alarms, Refused, ReadFault, WriteFault, NoMemory, Usage}
 
 -- a fact of the request and the files, where the words are canonical and the folder tells its files
 abbrev pub WhereTold : Option (List ℕ) → Option Files → (List ℕ → Files → Type 0) → Type 0
@@ -18,13 +18,29 @@ abbrev pub RefusesRightly : Status → List ℕ → Files → Type 0
 RefusesRightly (Refused refusal) operand files = IsRefusal operand files refusal
 RefusesRightly status operand files = Unit {0}
 
--- where a refusal is owed, one is answered, unless memory ran out
-abbrev pub RefusesAlways : Status → List ℕ → Files → Type 0
-RefusesAlways status operand files = (owed : Refusal) → IsRefusal operand files owed → ((refusal : Refusal) × (status ≡ Refused refusal)) ⊎ (status ≡ NoMemory)
+-- no refusal is owed
+abbrev pub IsUnrefused : List ℕ → Files → Type 0
+IsUnrefused operand files = (owed : Refusal) → IsRefusal operand files owed → ⊥
 
--- where no refusal is owed, the work is done, unless memory ran out
+-- where a refusal is owed, one is answered, unless the folder failed or memory ran out: all other statuses come only where none is
+abbrev pub RefusesAlways : Status → List ℕ → Files → Type 0
+RefusesAlways (Refused refusal) operand files = Unit {0}
+RefusesAlways ReadFault operand files = Unit {0}
+RefusesAlways NoMemory operand files = Unit {0}
+RefusesAlways Clean operand files = IsUnrefused operand files
+RefusesAlways Alarms operand files = IsUnrefused operand files
+RefusesAlways WriteFault operand files = IsUnrefused operand files
+RefusesAlways Usage operand files = IsUnrefused operand files
+
+-- where no refusal is owed, the work is done, unless the folder or the output failed or memory ran out
 abbrev pub Completes : Status → List ℕ → Files → Type 0
-Completes status operand files = ((owed : Refusal) → IsRefusal operand files owed → ⊥) → (status ≡ Clean) ⊎ (status ≡ NoMemory)
+Completes Clean operand files = Unit {0}
+Completes ReadFault operand files = Unit {0}
+Completes WriteFault operand files = Unit {0}
+Completes NoMemory operand files = Unit {0}
+Completes (Refused refusal) operand files = IsUnrefused operand files → ⊥
+Completes Alarms operand files = IsUnrefused operand files → ⊥
+Completes Usage operand files = IsUnrefused operand files → ⊥
 
 -- what the status says of the output: the whole text that is owed, a front of it, or nothing
 abbrev pub OutputIs : Option (List ℕ) → Option (List ℕ) → (List ℕ → Type 0) → Status → Type 0
@@ -41,6 +57,6 @@ WritesOut request files old new status = OutputIs old new (λ text. WhereTold re
 
 -- after a whole text was to be written: all of it is, or the output failed and has a front of it
 abbrev pub Writes : Option (List ℕ) → Option (List ℕ) → ℕ → ℕ → List ℕ → Status → Type 0
-Writes old new before now text Clean = TakesAll old new text
+Writes old new before now text Clean = (now ≡ before) × TakesAll old new text
 Writes old new before now text WriteFault = Rose before now × TakesFront old new text
 Writes old new before now text status = ⊥

@@ -7,8 +7,8 @@ use Rattle.jam_base.specs.Files.{Files}
 use Rattle.jam_app.specs.Entries.{entry_path}
 use Rattle.jam_app.specs.Texts.{IsBad, is_ascii}
 use Rattle.jam_app.specs.Rounds.{bytes_at, total_bytes, module_limit, IsRound, Fits, NoneBad}
-use Rattle.jam_app.specs.declared.refusal.Refusal.{Refusal}
-use Rattle.jam_app.specs.declared.refusal.Refusal.TheVariants as refusal
+use Rattle.jam_app.specs.declared.answers.refusal.Refusal.{Refusal}
+use Rattle.jam_app.specs.declared.answers.refusal.Refusal.TheVariants as refusal
 
 -- where a text within the limit that no tree spells is refused: at 0 where it isn't ASCII, else at the start of a token, at
 -- a character that begins none, or at its end
@@ -58,3 +58,10 @@ pub data IsRefusal (operand : List ℕ) (files : Files) : Refusal → Type 0 whe
       → IsRefusal operand files (refusal.TooLarge path (length (bytes_at files path)))
   not_in_profile : (path : List ℕ) (at : ℕ) → IsFirstBad operand files path → length (bytes_at files path) ≤ limit → IsRefusedAt (bytes_at files path) at
       → IsRefusal operand files (refusal.NotInProfile path at)
+
+-- the refusal but for the place at which a text outside the profile was left
+abbrev pub without_place : Refusal → Refusal
+without_place refusal.NoEntry = refusal.NoEntry
+without_place (refusal.TooMany modules bytes) = refusal.TooMany modules bytes
+without_place (refusal.TooLarge path n) = refusal.TooLarge path n
+without_place (refusal.NotInProfile path at) = refusal.NotInProfile path 0

@@ -1,28 +1,18 @@
 //! The top call of the tool: all that the program does, over a folder, a keeper and two sinks.
 #![tactic(auto)]
 
-mod edges;
-mod graph;
-mod links;
-mod loaded;
-mod message;
-mod module;
-mod printed;
-mod refusal;
-mod request;
-mod rounds;
-mod size;
-mod source;
-mod status;
-mod stop;
-mod text;
+mod answers;
+mod commands;
+mod law;
+mod loading;
 mod top;
-mod write;
 
-pub use refusal::Refusal;
-pub use status::Status;
-pub(crate) use stop::Stop;
-pub use top::run;
+pub use answers::refusal::Refusal;
+pub use answers::status::Status;
+pub(crate) use answers::stop::Stop;
+pub use law::one_refusal;
+pub use loading::size::BYTE_LIMIT;
+pub use top::{ended_without_words, run};
 
 #[cfg(test)]
 mod constraints_lines;

@@ -197,6 +197,27 @@ fn an_application_may_have_16384_modules(rt: HostRuntime) -> Result<(), Fail> {
     Ok(())
 }
 
+// The entry takes two calls of the folder, and each of its 16,384 requires two. Then 16,383 modules are
+// read, and the next one is too many.
+#[test]
+fn a_module_that_is_too_many_is_not_read(rt: HostRuntime) -> Result<(), Fail> {
+    let alloc = rt.alloc();
+    for (failing, number) in [(49_153, 3), (49_154, 2)] {
+        let mut bench = many(alloc, 16_384)?;
+        bench.folder.fail_at(List::of(vec![in alloc; failing]?));
+        let words = words_of(alloc, "graph index.js")?;
+        let status = ran::<HostRuntime, Brand>(
+            &rt,
+            alloc,
+            &mut bench,
+            words.as_slice(),
+            Blank::new(1),
+        );
+        assert_eq!(&rt; status.number(), number);
+    }
+    Ok(())
+}
+
 // An entry and so many modules, each of which requires the next one.
 fn chain(alloc: Global, count: u32) -> Result<Bench, Fail> {
     let mut bench = empty_bench(alloc);

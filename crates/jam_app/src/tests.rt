@@ -1,7 +1,7 @@
 ghost use Rattle.std.specs.Prelude.{◌≡◌, ◌<◌};
 
 use crate::{Status, run};
-use jam_base::{List, MemFolder, MemKeeper, MemSink, ModulePath, NoGate, Steps, Text};
+use jam_base::{Gate, List, MemFolder, MemKeeper, MemSink, ModulePath, Steps, Text};
 use std::alloc::Global;
 use std::marker::{Brand, Sync};
 use std::process::Abort;
@@ -41,7 +41,17 @@ fn set_up(alloc: Global, path: &str, text: &[u8], failing: u64, room: u64) -> Re
     })
 }
 
-pub(crate) fn ran<R: Threads + Sync, L: Ledger>(
+// A gate that no run may pass.
+#[derive(Drop)]
+struct Closed<'a, R>(&'a R);
+
+impl<'a, R: Abort + Sync> Gate for Closed<'a, R> {
+    fn at(&self, package: u32) {
+        assert!(self.0; false, "package {package}");
+    }
+}
+
+pub(crate) fn ran<R: Threads + Abort + Sync, L: Ledger>(
     rt: &R,
     alloc: Global,
     bench: &mut Bench,
@@ -62,7 +72,7 @@ pub(crate) fn ran<R: Threads + Sync, L: Ledger>(
         &mut keeper,
         &mut bench.out,
         &mut bench.err,
-        &NoGate,
+        &Closed(rt),
         &mut steps,
     )
 }
@@ -305,6 +315,38 @@ fn a_fault_ends_the_run_where_it_occurs(rt: HostRuntime) -> Result<(), Fail> {
             Blank::new(1),
         );
         compare(&rt, &bench, &status, number, out, err);
+    }
+    Ok(())
+}
+
+#[test]
+fn a_failing_error_output_changes_nothing_else(rt: HostRuntime) -> Result<(), Fail> {
+    let alloc = rt.alloc();
+    for (line, failing, room, number, out) in [
+        (
+            "graph index.js",
+            0,
+            99,
+            0,
+            "index.js:2:2 -> index.js:1:1 f\n",
+        ),
+        ("graph none.js", 0, 99, 2, ""),
+        ("graph index.js", 1, 99, 3, ""),
+        ("graph index.js", 0, 4, 4, "inde"),
+        ("graph", 0, 99, 6, ""),
+    ] {
+        let text = b"function f() { }\nf();\n".as_slice();
+        let mut bench = set_up(alloc, "index.js", text, failing, room)?;
+        bench.err.fail_after(0);
+        let words = words_of(alloc, line)?;
+        let status = ran::<HostRuntime, Brand>(
+            &rt,
+            alloc,
+            &mut bench,
+            words.as_slice(),
+            Blank::new(1),
+        );
+        compare(&rt, &bench, &status, number, out, "");
     }
     Ok(())
 }

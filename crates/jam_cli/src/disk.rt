@@ -1,22 +1,18 @@
 //! The current folder of the process.
 ghost use Rattle.std.specs.Prelude.{None};
 
+use jam_app::BYTE_LIMIT;
 use jam_base::{Failed, Folder, ModulePath, ReadFailed};
 use std::alloc::Global;
 use std::fs;
 use std::io::{self, ErrorKind, Read};
 use std::rt::Files;
 
-/// A longer file is a failure, in bytes.
-const LIMIT: usize = 67_108_864;
-
-/// How many bytes are asked for at once.
-const PIECE: usize = 65_536;
-
 /// The current folder. It tells no files and counts the faults of the system's calls. Symbolic links are
-/// followed. A file that isn't found, a path through something that is no folder, a path with a NUL
-/// character and one that is too long are absent files; every other error of the system is a failure,
-/// and so is the reading of a file past 67,108,864 bytes.
+/// followed. What isn't a regular file (a folder, a device, a pipe), what isn't found, a path through
+/// something that is no folder, one with a NUL character and one that is too long are absent files.
+/// Every other error of the system is a failure, and so is the reading of a file past `BYTE_LIMIT`. A
+/// file that has no bytes by the system's word is read as empty, so a log of the kernel isn't waited for.
 #[derive(Drop)]
 pub struct DiskFolder<'a, R> {
     files: &'a R,
@@ -38,32 +34,34 @@ fn is_absence(error: &io::Error) -> bool {
     )
 }
 
-// Whether the system can be asked for the path.
-fn can_stand(path: &ModulePath) -> bool {
-    !path.as_str().as_bytes().contains(&0)
+// What was found, and nothing where the error says that no file stands there.
+fn unless_absent<T: Drop>(found: io::Result<Option<T>>) -> io::Result<Option<T>> {
+    match found {
+        Err(error) if is_absence(&error) => Ok(None),
+        found => found,
+    }
 }
 
-// Reads a file to its end, up to the limit.
-fn read_whole<F: Read>(alloc: Global, file: &mut F) -> Result<Vec<u8>, ReadFailed> {
-    let mut bytes = Vec::new(alloc);
-    let Ok(mut piece) = vec![in alloc; 0u8; PIECE] else {
-        return Err(ReadFailed::OutOfMemory);
-    };
-    for _ in 0..=LIMIT {
-        match file.read(piece.as_mut_slice()) {
-            Ok(0) => return Ok(bytes),
-            Ok(count) => {
-                if bytes.extend_from_slice(&piece[..count]).is_err() {
-                    return Err(ReadFailed::OutOfMemory);
-                }
-                if bytes.len() > LIMIT {
-                    return Err(ReadFailed::Failed);
-                }
-            }
-            Err(_) => return Err(ReadFailed::Failed),
-        }
+// How many bytes the regular file at the path has, by the system's word.
+fn length_at<R: Files>(files: &R, path: &ModulePath) -> io::Result<Option<u64>> {
+    if path.as_str().as_bytes().contains(&0) {
+        return Ok(None);
     }
-    Err(ReadFailed::Failed)
+    let found = fs::metadata(files, path.as_str())?;
+    Ok(found.is_file().then_some(found.len()))
+}
+
+// The bytes of the regular file at the path, no more than one past the limit.
+fn bytes_at<R: Files>(alloc: Global, files: &R, path: &ModulePath) -> io::Result<Option<Vec<u8>>> {
+    let Some(length) = length_at(files, path)? else {
+        return Ok(None);
+    };
+    let mut bytes = Vec::new(alloc);
+    if length > 0 {
+        let file = fs::open(files, path.as_str())?;
+        let _ = file.take(BYTE_LIMIT + 1).read_to_end(&mut bytes)?;
+    }
+    Ok(Some(bytes))
 }
 
 impl<'a, R: Files> Folder for DiskFolder<'a, R> {
@@ -72,12 +70,8 @@ impl<'a, R: Files> Folder for DiskFolder<'a, R> {
     ghost faults = { λ f. f.faults };
 
     fn is_file(&mut self, path: &ModulePath) -> Result<bool, Failed> {
-        if !can_stand(path) {
-            return Ok(false);
-        }
-        match fs::metadata(self.files, path.as_str()) {
-            Ok(found) => Ok(found.is_file()),
-            Err(error) if is_absence(&error) => Ok(false),
+        match unless_absent(length_at(self.files, path)) {
+            Ok(found) => Ok(found.is_some()),
             Err(_) => {
                 self.faults = self.faults.saturating_add(1);
                 Err(Failed)
@@ -86,18 +80,11 @@ impl<'a, R: Files> Folder for DiskFolder<'a, R> {
     }
 
     fn read(&mut self, alloc: Global, path: &ModulePath) -> Result<Option<Vec<u8>>, ReadFailed> {
-        if !can_stand(path) {
-            return Ok(None);
-        }
-        let read = match fs::open(self.files, path.as_str()) {
-            Ok(mut file) => read_whole(alloc, &mut file),
-            Err(error) if is_absence(&error) => return Ok(None),
-            Err(_) => Err(ReadFailed::Failed),
-        };
-        match read {
-            Ok(bytes) => Ok(Some(bytes)),
-            Err(ReadFailed::OutOfMemory) => Err(ReadFailed::OutOfMemory),
-            Err(ReadFailed::Failed) => {
+        match unless_absent(bytes_at(alloc, self.files, path)) {
+            Ok(None) => Ok(None),
+            Ok(Some(bytes)) if bytes.len() as u64 <= BYTE_LIMIT => Ok(Some(bytes)),
+            Err(error) if error.kind() == ErrorKind::OutOfMemory => Err(ReadFailed::OutOfMemory),
+            _ => {
                 self.faults = self.faults.saturating_add(1);
                 Err(ReadFailed::Failed)
             }

@@ -7,31 +7,41 @@ mod sink;
 ghost use Rattle.std.specs.Prelude.{◌≡◌, ◌<◌};
 
 use disk::DiskFolder;
-use jam_app::{Status, run};
+use jam_app::{Status, ended_without_words, run};
 use jam_base::{MemKeeper, NoGate, Sink, Steps, Text};
 use sink::StdSink;
 use std::alloc::Global;
 use std::env;
-use std::io::{Stderr, Stdout};
+use std::io::{ErrorKind, Stderr, Stdout};
 use std::marker::{Brand, Sync};
 use std::process::ExitCode;
 use std::rt::{Env, Files};
 use std::sync::ledger::{Blank, Ledger};
 use std::thread::Threads;
 
-// The words of the command line, without the program's name. Words that aren't UTF-8 are not canonical.
-fn words_of(rt: &(impl Env + AllocGlobal)) -> Result<Vec<Text>, Status> {
+// Why there are no words.
+#[derive(Drop)]
+enum NoWords {
+    // One of them isn't UTF-8, and such words are not canonical.
+    NotText,
+    OutOfMemory,
+}
+
+// The words of the command line, without the program's name.
+fn words_of(rt: &(impl Env + AllocGlobal)) -> Result<Vec<Text>, NoWords> {
     let alloc = rt.alloc();
-    let Ok(args) = env::args(rt) else {
-        return Err(Status::Usage);
+    let args = match env::args(rt) {
+        Ok(args) => args,
+        Err(error) if error.kind() == ErrorKind::OutOfMemory => return Err(NoWords::OutOfMemory),
+        Err(_) => return Err(NoWords::NotText),
     };
     let mut words = Vec::new(alloc);
     for word in args.skip(1) {
         let Ok(word) = Text::of(alloc, word.as_str()) else {
-            return Err(Status::NoMemory);
+            return Err(NoWords::OutOfMemory);
         };
         if words.push(word).is_err() {
-            return Err(Status::NoMemory);
+            return Err(NoWords::OutOfMemory);
         }
     }
     Ok(words)
@@ -79,7 +89,8 @@ fn main(rt: HostRuntime) -> ExitCode {
             &mut err,
             Blank::new(1),
         ),
-        Err(status) => status,
+        Err(NoWords::OutOfMemory) => ended_without_words(&mut err),
+        Err(NoWords::NotText) => Status::Usage,
     };
     ExitCode::from(status.number())
 }

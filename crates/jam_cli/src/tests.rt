@@ -2,6 +2,7 @@ use crate::disk::DiskFolder;
 use crate::sink::StdSink;
 use jam_base::{Failed, Folder, ModulePath, Sink};
 use std::alloc::Global;
+use std::os::unix::fs::symlink;
 use std::process::Abort;
 use std::test::Fail;
 use std::{fs, io};
@@ -24,6 +25,39 @@ fn the_current_folder_is_read(rt: HostRuntime) -> Result<(), Fail> {
     assert!(rt; folder.read(alloc, &inside).ok().ok_or("inside")?.is_none());
     let bytes = folder.read(alloc, &present).ok().flatten().ok_or("bytes")?;
     assert_eq!(rt; bytes.as_slice(), text);
+    fs::remove_file(&rt, "index.js")?;
+    Ok(())
+}
+
+// What stands at the path: nothing, or a file with so many bytes.
+fn found(
+    rt: &impl Abort,
+    alloc: Global,
+    folder: &mut impl Folder,
+    path: &str,
+) -> Result<Option<usize>, Fail> {
+    let path = ModulePath::read(alloc, path)?.ok_or("path")?;
+    let is_file = folder.is_file(&path).ok().ok_or("is_file")?;
+    let bytes = folder.read(alloc, &path).ok().ok_or("read")?;
+    assert_eq!(rt; is_file, bytes.is_some());
+    Ok(bytes.map(|bytes| bytes.len()))
+}
+
+#[test]
+fn a_device_is_no_file(rt: HostRuntime) -> Result<(), Fail> {
+    let alloc = rt.alloc();
+    fs::write(&rt, "empty.js", b"".as_slice())?;
+    symlink(&rt, "empty.js", "linked.js")?;
+    symlink(&rt, "/dev/zero", "device.js")?;
+    symlink(&rt, "none.js", "broken.js")?;
+    let mut folder = DiskFolder::new(&rt);
+    assert_eq!(rt; found(&rt, alloc, &mut folder, "empty.js")?, Some(0));
+    assert_eq!(rt; found(&rt, alloc, &mut folder, "linked.js")?, Some(0));
+    assert_eq!(rt; found(&rt, alloc, &mut folder, "device.js")?, None);
+    assert_eq!(rt; found(&rt, alloc, &mut folder, "broken.js")?, None);
+    for path in ["empty.js", "linked.js", "device.js", "broken.js"] {
+        fs::remove_file(&rt, path)?;
+    }
     Ok(())
 }
 

@@ -1,0 +1,158 @@
+-- The refusals of one request are one.
+use Rattle.std.proofs.Common.{◌≡◌, ◌⊎◌, inl, inr, ℕ, ◌+◌, ◌<◌, ◌≤◌, List, [], ◌∷◌, ◌++◌, length, refl, ap, sym, subst, ◌∙◌, arith}
+use Rattle.std.specs.Prelude.{Contains}
+use Rattle.std.proofs.lemmas.Bool.{cases_lt}
+use Rattle.std.proofs.lemmas.List.{append_assoc}
+use Rattle.std.proofs.lemmas.List.Elements.{All-contains, Contains-append_left, Contains-append_right}
+use Rattle.std.proofs.lemmas.Option.{none-some, same_Some}
+use Rattle.jam_base.specs.Files.{Files}
+use Rattle.js_tree.specs.Spells.{limit}
+use Rattle.composer.proofs.Members.{here}
+use Rattle.jam_app.specs.declared.answers.refusal.Refusal.{Refusal}
+use Rattle.jam_app.specs.declared.answers.refusal.Refusal.TheVariants as refusal
+use Rattle.jam_app.specs.Refusals.{IsFirstBad, IsOneTooMany, IsReached, IsRefusal, counted_bytes, no_entry, not_in_profile, too_large, too_many, without_place}
+use Rattle.jam_app.specs.Rounds.{Fits, IsRound, bytes_at}
+use Rattle.jam_app.specs.Texts.{IsBad}
+use Rattle.jam_app.proofs.RoundLemmas.{one_round, round_within}
+use Rattle.jam_app.proofs.Whole.{prefix_fits}
+
+three : (a b : ℕ) → (a < b) ⊎ ((b < a) ⊎ (a ≡ b))
+three a b = elim (cases_lt a b) [
+  | inl lt ↦ inl lt
+  | inr le ↦ elim (cases_lt b a) [ inl gt ↦ inr (inl gt) | inr ge ↦ inr (inr (omega (arith, le, ge))) ]
+]
+
+parted : {X : Type 0} (x y : X) (xs ys : List X) → x ∷ xs ≡ y ∷ ys → (x ≡ y) × (xs ≡ ys)
+parted x y xs ys e = (cc, cc)
+
+-- one list parted at two places: they are one, or one of them stands in front of the other
+split : {X : Type 0} (f g : List X) (p q : X) (h k : List X) → f ++ p ∷ h ≡ g ++ q ∷ k
+    → ((f ≡ g) × (p ≡ q)) ⊎ (((rest : List X) × (g ≡ f ++ p ∷ rest)) ⊎ ((rest : List X) × (f ≡ g ++ q ∷ rest)))
+split [] [] p q h k e = inl (refl, (parted p q h k e).0)
+split [] (y ∷ g) p q h k e = inr (inl (g, ap (λ z. z ∷ g) (sym (parted p y h (g ++ q ∷ k) e).0)))
+split (x ∷ f) [] p q h k e = inr (inr (f, ap (λ z. z ∷ f) (parted x q (f ++ p ∷ h) k e).0))
+split (x ∷ f) (y ∷ g) p q h k e =
+    let both = parted x y (f ++ p ∷ h) (g ++ q ∷ k) e in
+    elim (split f g p q h k both.1) [
+      | inl (same, one) ↦ inl ((λ i. both.0 i ∷ same i), one)
+      | inr further ↦ elim further [
+        | inl (rest, is) ↦ inr (inl (rest, (λ i. sym both.0 i ∷ is i)))
+        | inr (rest, is) ↦ inr (inr (rest, (λ i. both.0 i ∷ is i)))
+      ]
+    ]
+
+module _ (m : Files) (operand : List ℕ) where
+  -- a round that is reached stands before each later one
+  before_later : (b f : List (List ℕ)) (p : List ℕ) (h c g : List (List ℕ)) (q : List ℕ) (k : List (List ℕ)) (r : IsReached operand m b f p h) (s : IsReached operand m c g q k) → r.number < s.number
+      → (rest : List (List ℕ)) × (c ≡ b ++ (f ++ p ∷ h) ++ rest)
+  before_later b f p h c g q k r s lt =
+      round_within m r.entry r.number s.number b (f ++ p ∷ h) c (g ++ q ∷ k) r.is_round
+      (subst (λ (e : List ℕ). IsRound m e s.number c (g ++ q ∷ k)) (same_Some s.entry r.entry (sym s.found ∙ r.found)) s.is_round) lt
+
+  same_round : (b f : List (List ℕ)) (p : List ℕ) (h c g : List (List ℕ)) (q : List ℕ) (k : List (List ℕ)) (r : IsReached operand m b f p h) (s : IsReached operand m c g q k) → r.number ≡ s.number
+      → (b ≡ c) × (f ++ p ∷ h ≡ g ++ q ∷ k)
+  same_round b f p h c g q k r s same =
+      one_round m r.entry r.number b (f ++ p ∷ h) c (g ++ q ∷ k) r.is_round
+      (subst (λ n. IsRound m r.entry n c (g ++ q ∷ k)) (sym same) (subst (λ (e : List ℕ). IsRound m e s.number c (g ++ q ∷ k)) (same_Some s.entry r.entry (sym s.found ∙ r.found)) s.is_round))
+
+  -- no later round is reached behind a bad module
+  later_bad : (b f : List (List ℕ)) (p : List ℕ) (h c g : List (List ℕ)) (q : List ℕ) (k : List (List ℕ)) (r : IsReached operand m b f p h) (s : IsReached operand m c g q k) → IsBad (bytes_at m p) → r.number < s.number → ⊥
+  later_bad b f p h c g q k r s is_bad lt =
+      let all = before_later b f p h c g q k r s lt in
+      let inside : Contains c p = subst (λ (ps : List (List ℕ)). Contains ps p) (sym all.1)
+      (Contains-append_left (b ++ (f ++ p ∷ h)) all.0 p (Contains-append_right b (f ++ p ∷ h) p (Contains-append_right f (p ∷ h) p (here p h)))) in
+      All-contains (λ (x : List ℕ). IsBad (bytes_at m x) → ⊥) c p s.none_bad inside is_bad
+
+  -- nor behind one that is one too many, where the modules before that round are within the limits
+  later_over : (e : List (List ℕ)) (p : List ℕ) (one : IsOneTooMany operand m e p) (c g : List (List ℕ)) (q : List ℕ) (k : List (List ℕ)) (s : IsReached operand m c g q k) → Fits m c → one.reached.number < s.number → ⊥
+  later_over e p one c g q k s fits lt =
+      let all = before_later one.before one.front p one.behind c g q k one.reached s lt in
+      let parts : c ≡ (e ++ p ∷ []) ++ (one.behind ++ all.0) =
+      all.1
+      ∙ ap (λ xs. xs ++ all.0) (sym (append_assoc one.before one.front (p ∷ one.behind)) ∙ ap (λ xs. xs ++ p ∷ one.behind) (sym one.earlier_are) ∙ sym (append_assoc e (p ∷ []) one.behind))
+      ∙ append_assoc (e ++ p ∷ []) one.behind all.0 in
+      one.over (prefix_fits m c (e ++ p ∷ []) (one.behind ++ all.0) parts fits)
+
+  -- a module that is one too many stands in front of none within the limits
+  too_soon : (e : List (List ℕ)) (p : List ℕ) (one : IsOneTooMany operand m e p) (d c rest : List (List ℕ)) → one.before ≡ c → d ≡ c ++ (one.front ++ p ∷ rest) → Fits m d → ⊥
+  too_soon e p one d c rest same is fits =
+      one.over (prefix_fits m d (e ++ p ∷ []) rest
+      (is ∙ ap (λ xs. xs ++ (one.front ++ p ∷ rest)) (sym same) ∙ sym (append_assoc one.before one.front (p ∷ rest)) ∙ ap (λ xs. xs ++ p ∷ rest) (sym one.earlier_are) ∙ sym (append_assoc e (p ∷ []) rest))
+      fits)
+
+  before_fits : (e : List (List ℕ)) (p : List ℕ) (one : IsOneTooMany operand m e p) → Fits m one.before
+  before_fits e p one = prefix_fits m e one.before one.front one.earlier_are one.fit
+
+  many_twice : (e d : List (List ℕ)) (p q : List ℕ) → IsOneTooMany operand m e p → IsOneTooMany operand m d q → (e ≡ d) × (p ≡ q)
+  many_twice e d p q one other = elim (three one.reached.number other.reached.number) [
+    | inl lt ↦ absurd (later_over e p one other.before other.front q other.behind other.reached (before_fits d q other) lt)
+    | inr further ↦ elim further [
+      | inl gt ↦ absurd (later_over d q other one.before one.front p one.behind one.reached (before_fits e p one) gt)
+      | inr same ↦ (
+          let both = same_round one.before one.front p one.behind other.before other.front q other.behind one.reached other.reached same in
+          elim (split one.front other.front p q one.behind other.behind both.1) [
+            | inl (fronts, paths) ↦ (one.earlier_are ∙ (λ i. both.0 i ++ fronts i) ∙ sym other.earlier_are, paths)
+            | inr apart ↦ elim apart [
+              | inl (rest, is) ↦ absurd (too_soon e p one d other.before rest both.0 (other.earlier_are ∙ ap (λ xs. other.before ++ xs) is) other.fit)
+              | inr (rest, is) ↦ absurd (too_soon d q other e one.before rest (sym both.0) (one.earlier_are ∙ ap (λ xs. one.before ++ xs) is) one.fit)
+            ]
+          ]
+          )
+    ]
+  ]
+
+  many_bad : (e : List (List ℕ)) (p q : List ℕ) → IsOneTooMany operand m e p → IsFirstBad operand m q → ⊥
+  many_bad e p q one first = elim (three one.reached.number first.reached.number) [
+    | inl lt ↦ later_over e p one first.before first.front q first.behind first.reached
+        (prefix_fits m (first.before ++ first.front ++ q ∷ first.behind) first.before (first.front ++ q ∷ first.behind) (append_assoc first.before first.front (q ∷ first.behind)) first.fits) lt
+    | inr further ↦ elim further [
+      | inl gt ↦ later_bad first.before first.front q first.behind one.before one.front p one.behind first.reached one.reached first.bad gt
+      | inr same ↦ (
+          let both = same_round one.before one.front p one.behind first.before first.front q first.behind one.reached first.reached same in
+          too_soon e p one (first.before ++ first.front ++ q ∷ first.behind) first.before one.behind both.0
+          (append_assoc first.before first.front (q ∷ first.behind) ∙ ap (λ xs. first.before ++ xs) (sym both.1)) first.fits
+          )
+    ]
+  ]
+
+  in_front : (g f rest : List (List ℕ)) (p : List ℕ) → g ≡ f ++ p ∷ rest → Contains g p
+  in_front g f rest p is = subst (λ (ps : List (List ℕ)). Contains ps p) (sym is) (Contains-append_right f (p ∷ rest) p (here p rest))
+
+  bad_twice : (p q : List ℕ) → IsFirstBad operand m p → IsFirstBad operand m q → p ≡ q
+  bad_twice p q one other = elim (three one.reached.number other.reached.number) [
+    | inl lt ↦ absurd (later_bad one.before one.front p one.behind other.before other.front q other.behind one.reached other.reached one.bad lt)
+    | inr further ↦ elim further [
+      | inl gt ↦ absurd (later_bad other.before other.front q other.behind one.before one.front p one.behind other.reached one.reached other.bad gt)
+      | inr same ↦ (
+          let both = same_round one.before one.front p one.behind other.before other.front q other.behind one.reached other.reached same in
+          elim (split one.front other.front p q one.behind other.behind both.1) [
+            | inl (fronts, paths) ↦ paths
+            | inr apart ↦ elim apart [
+              | inl (rest, is) ↦ absurd (All-contains (λ (x : List ℕ). IsBad (bytes_at m x) → ⊥) other.front p other.none_bad (in_front other.front one.front rest p is) one.bad)
+              | inr (rest, is) ↦ absurd (All-contains (λ (x : List ℕ). IsBad (bytes_at m x) → ⊥) one.front q one.none_bad (in_front one.front other.front rest q is) other.bad)
+            ]
+          ]
+          )
+    ]
+  ]
+
+  pub one_refusal : (one other : Refusal) → IsRefusal operand m one → IsRefusal operand m other → without_place one ≡ without_place other
+  one_refusal one other (no_entry a) (no_entry b) = refl
+  one_refusal one other (no_entry a) (too_many e p b) = absurd (none-some b.reached.entry (sym a ∙ b.reached.found))
+  one_refusal one other (no_entry a) (too_large p b over) = absurd (none-some b.reached.entry (sym a ∙ b.reached.found))
+  one_refusal one other (no_entry a) (not_in_profile p at b within refused) = absurd (none-some b.reached.entry (sym a ∙ b.reached.found))
+  one_refusal one other (too_many e p a) (no_entry b) = absurd (none-some a.reached.entry (sym b ∙ a.reached.found))
+  one_refusal one other (too_many e p a) (too_many d q b) =
+      let same = many_twice e d p q a b in λ i. refusal.TooMany (length (same.0 i) + 1) (counted_bytes m (same.0 i) (same.1 i))
+  one_refusal one other (too_many e p a) (too_large q b over) = absurd (many_bad e p q a b)
+  one_refusal one other (too_many e p a) (not_in_profile q at b within refused) = absurd (many_bad e p q a b)
+  one_refusal one other (too_large p a over) (no_entry b) = absurd (none-some a.reached.entry (sym b ∙ a.reached.found))
+  one_refusal one other (too_large p a over) (too_many e q b) = absurd (many_bad e q p b a)
+  one_refusal one other (too_large p a over) (too_large q b more) = ap (λ (x : List ℕ). refusal.TooLarge x (length (bytes_at m x))) (bad_twice p q a b)
+  one_refusal one other (too_large p a over) (not_in_profile q at b within refused) =
+      let same : length (bytes_at m p) ≡ length (bytes_at m q) = ap (λ (x : List ℕ). length (bytes_at m x)) (bad_twice p q a b) in absurd (omega (arith, over, within, same))
+  one_refusal one other (not_in_profile p at a within refused) (no_entry b) = absurd (none-some a.reached.entry (sym b ∙ a.reached.found))
+  one_refusal one other (not_in_profile p at a within refused) (too_many e q b) = absurd (many_bad e q p b a)
+  one_refusal one other (not_in_profile p at a within refused) (too_large q b over) =
+      let same : length (bytes_at m p) ≡ length (bytes_at m q) = ap (λ (x : List ℕ). length (bytes_at m x)) (bad_twice p q a b) in absurd (omega (arith, over, within, same))
+  one_refusal one other (not_in_profile p at a within refused) (not_in_profile q place b small because) = ap (λ (x : List ℕ). refusal.NotInProfile x 0) (bad_twice p q a b)

@@ -1,0 +1,43 @@
+-- What a run writes on the error output.
+use Rattle.std.proofs.Common.{◌≡◌, ◌++◌, ℕ, zero, suc, List, [], refl, ap, subst, ◌∙◌, Option, Some, None, take}
+use Rattle.jam_base.specs.declared.place.Place.{Place}
+use Rattle.jam_app.specs.declared.answers.line.Line.{Line}
+use Rattle.jam_app.specs.declared.answers.line.Line.TheVariants.{Nothing, Fixed, Made}
+use Rattle.jam_app.specs.declared.answers.refusal.Refusal.{Refusal}
+use Rattle.jam_app.specs.declared.answers.refusal.Refusal.TheVariants as refusal
+use Rattle.jam_app.specs.declared.answers.status.Status.{Status}
+use Rattle.jam_app.specs.declared.answers.status.Status.TheVariants as status
+use Rattle.jam_app.specs.Lines.{IsRefusalText, IsTold, TellsRefusal, TellsStatus, no_entry, not_in_profile_line, text_of, too_large_line, too_many_line}
+use Rattle.jam_app.specs.Written.{TakesFront}
+
+nothing_taken : (n : ℕ) → take n (let none : List ℕ = [] in none) ≡ []
+nothing_taken zero = refl
+nothing_taken (suc n) = refl
+
+-- where nothing was taken, a front of any text was
+front_of_none : (old new : Option (List ℕ)) (text : List ℕ) → TakesFront old new [] → TakesFront old new text
+front_of_none None new text took = tt
+front_of_none (Some bytes) new text (n, is) = (0, is ∙ ap (λ (t : List ℕ). Some (bytes ++ t)) (nothing_taken n))
+
+-- a text that says a refusal
+refusal_text : (owed : Refusal) → (text : List ℕ) × IsRefusalText owed text
+refusal_text refusal.NoEntry = (no_entry, refl)
+refusal_text (refusal.TooMany modules bytes) = (too_many_line modules bytes, refl)
+refusal_text (refusal.TooLarge path n) = (too_large_line path n, refl)
+refusal_text (refusal.NotInProfile path at) =
+    let place : Place = record { offset = at; line = 1; column = 1 } in (not_in_profile_line path 1 1, (place, refl, refl))
+
+told_refusal : (old new : Option (List ℕ)) (owed : Refusal) (line : Line) → TellsRefusal owed line → TakesFront old new (text_of line) → (text : List ℕ) × IsRefusalText owed text × TakesFront old new text
+told_refusal old new owed Nothing tells took = let text = refusal_text owed in (text.0, text.1, front_of_none old new text.0 took)
+told_refusal old new owed (Fixed text) tells took = (text.now, tells, took)
+told_refusal old new owed (Made text) tells took = (text, tells, took)
+
+-- the line of a status, or a front of it, was taken
+pub told_status : (old new : Option (List ℕ)) (ended : Status) (line : Line) → TellsStatus ended line → TakesFront old new (text_of line) → IsTold (TakesFront old new) ended
+told_status old new status.Clean line tells took = subst (TakesFront old new) tells took
+told_status old new status.Alarms line tells took = subst (TakesFront old new) tells took
+told_status old new (status.Refused owed) line tells took = told_refusal old new owed line tells took
+told_status old new status.ReadFault line tells took = subst (TakesFront old new) tells took
+told_status old new status.WriteFault line tells took = subst (TakesFront old new) tells took
+told_status old new status.NoMemory line tells took = subst (TakesFront old new) tells took
+told_status old new status.Usage line tells took = subst (TakesFront old new) tells took

@@ -1,6 +1,0 @@
-use Rattle.std.proofs.Common.{take}
-use Rattle.jam_app.specs.Parts.{Adds, LinksAmong}
-use Rattle.jam_app.proofs.links.push_links.Given as goal
-
-abbrev pub invariant-loop-led : goal.invariant-loop-led
-invariant-loop-led l = Adds (LinksAmong l.loaded l.m (take l.led-index l.targets)) l.fn.links.items l.links.items

@@ -1,0 +1,17 @@
+use Rattle.std.proofs.Common.{◌≡◌, ◌≤◌, ◌-◌}
+use Rattle.std.specs.Option.{IfSome}
+use Rattle.jam_app.specs.BetweenRounds.{HoldsAnalysed, Stands}
+use Rattle.jam_app.proofs.loading.rounds.load.Given as goal
+
+abbrev pub invariant-loop-alloc : goal.invariant-loop-alloc
+invariant-loop-alloc g l = record {
+  stands : IfSome (g.F.Folder.files l.fn.folder) (λ m. Stands l.operand m l.progress l.round.items);
+  held : HoldsAnalysed l.progress.modules;
+  modules : l.progress.size.modules ≤ 16384;
+  bytes : l.progress.size.bytes ≤ 67108864;
+  same : g.F.Folder.files l.folder ≡ g.F.Folder.files l.fn.folder;
+  quiet : g.F.Folder.faults l.folder ≡ g.F.Folder.faults l.fn.folder;
+}
+
+abbrev pub decreases-loop-alloc : goal.decreases-loop-alloc
+decreases-loop-alloc g l = 16384 - l.progress.size.modules

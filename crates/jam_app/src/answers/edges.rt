@@ -1,0 +1,217 @@
+//! The call edges of an application, as they are printed.
+ghost use Rattle.std.specs.Prelude.{◌≡◌, ◌≤◌, ◌<◌, ◌++◌, ℕ, List, length, map, take, slice_get, None, Some, All, IfOk, OnOk};
+ghost use Rattle.std.specs.Str.{IsAscii};
+ghost use Rattle.jam_base.specs.Files.{Files};
+ghost use Rattle.flow_rules.specs.Flows.{constraints_of};
+ghost use Rattle.jam_app.specs.Graphs as graphs;
+ghost use Rattle.jam_app.specs.Loading.{IsWhole, module_of};
+ghost use Rattle.jam_app.specs.Printing.{AreOfModule, call_in, edge_among, function_among, printed_of, spot_at, spot_of};
+ghost use Rattle.jam_app.specs.Loading.{IsAnalysed};
+ghost use Rattle.jam_app.specs.Rounds.{Ascend};
+
+use crate::answers::printed::{Printed, nowhere};
+use crate::loading::links::links_of;
+use crate::loading::loaded::Loaded;
+use composer::compose;
+use flow_rules::Constraints;
+use jam_base::{Edge, FunctionRef, List, OutOfMemory, Place, Text};
+use report_text::{PathStep, Shown, graph_text};
+use std::alloc::Global;
+
+/// The call graph of the loaded modules, which go by their paths.
+pub(crate) fn printed_edges(alloc: Global, loaded: Vec<Loaded>) -> Result<Text, OutOfMemory>
+    requires sorted { Ascend (map (λ l. l.path) loaded.items) }
+    requires read { All IsAnalysed loaded.items }
+    ensures { IfOk result (λ text. (operand : List ℕ) (files : Files) → IsWhole operand files loaded.items → graphs.IsGraphText operand files text) }
+{
+    let links = links_of(alloc, loaded.as_slice())?;
+    let printed = printed_modules(alloc, loaded.as_slice())?;
+    let constraints = all_constraints(alloc, loaded)?;
+    let graph = compose(alloc, constraints.as_slice(), links.as_slice())?;
+    let steps = shown_edges(alloc, printed.as_slice(), graph.edges())?;
+    graph_text(alloc, &List::of(steps))
+}
+
+// What is printed of the modules.
+fn printed_modules(alloc: Global, loaded: &[Loaded]) -> Result<Vec<Printed>, OutOfMemory>
+    requires { All IsAnalysed loaded.now }
+    ensures { IfOk result (λ printed. printed.items ≡ map printed_of (map module_of loaded.now)) }
+{
+    let mut printed = Vec::new(alloc);
+    for one in loaded {
+        printed.push(printed_module(alloc, one)?)?;
+    }
+    Ok(printed)
+}
+
+// What is printed of a module.
+fn printed_module(alloc: Global, one: &Loaded) -> Result<Printed, OutOfMemory>
+    requires { IsAnalysed one.now }
+    ensures { IfOk result (λ printed. printed ≡ printed_of (module_of one.now)) }
+{
+    let text = ascii(one.bytes.as_slice());
+    let functions = one.constraints.functions();
+    Printed::of(alloc, one.path.as_str(), text, functions)
+}
+
+// The text of bytes that are ASCII.
+fn ascii(bytes: &[u8]) -> &str
+    requires { IsAscii bytes.now }
+    ensures { result.now ≡ bytes.now }
+{
+    match str::from_utf8(bytes) {
+        Ok(text) => text,
+        Err(_) => "",
+    }
+}
+
+// The constraints of the modules.
+fn all_constraints(alloc: Global, loaded: Vec<Loaded>) -> Result<Vec<Constraints>, OutOfMemory>
+    ensures { IfOk result (λ made. made.items ≡ map (λ l. l.constraints) loaded.items) }
+{
+    let mut made = Vec::new(alloc);
+    for one in loaded {
+        let Loaded { constraints, .. } = one;
+        made.push(constraints)?;
+    }
+    Ok(made)
+}
+
+// The edges, as they are printed. Edges of one module that stand together take one walk over its text.
+fn shown_edges(
+    alloc: Global,
+    printed: &[Printed],
+    edges: &[Edge],
+) -> Result<Vec<PathStep>, OutOfMemory>
+    ensures { IfOk result (λ steps. steps.items ≡ map (edge_among printed.now) edges.now) }
+{
+    let mut steps = Vec::new(alloc);
+    let mut rest = edges;
+    while let Some(first) = rest.first() {
+        let m = first.caller.module;
+        let (here, behind) = rest.split_at(run_length(rest, m));
+        push_run(alloc, printed, m, here, &mut steps)?;
+        rest = behind;
+    }
+    Ok(steps)
+}
+
+// How many edges at the front have their caller in module m.
+fn run_length(edges: &[Edge], m: u32) -> usize
+    ensures within { result ≤ length edges.now }
+    ensures run { AreOfModule m (take result edges.now) }
+    ensures some { (first : Edge) → slice_get edges.now 0 ≡ Some first → first.caller.module ≡ m → 0 < result }
+{
+    let mut count = 0;
+    while count < edges.len() && edges[count].caller.module == m {
+        count += 1;
+    }
+    count
+}
+
+// Adds edges whose callers are in module m.
+fn push_run(
+    alloc: Global,
+    printed: &[Printed],
+    m: u32,
+    edges: &[Edge],
+    steps: &mut Vec<PathStep>,
+) -> Result<(), OutOfMemory>
+    requires { AreOfModule m edges.now }
+    ensures { OnOk result (steps.new.items ≡ steps.old.items ++ map (edge_among printed.now) edges.now) }
+{
+    match printed.get(m as usize) {
+        None => push_stray(alloc, printed, edges, steps),
+        Some(module) => {
+            let offsets = offsets_of(alloc, edges)?;
+            let places = module.places(alloc, offsets.as_slice())?;
+            push_calls(alloc, printed, module, edges, places.as_slice(), steps)
+        }
+    }
+}
+
+// Adds edges whose caller's module isn't there.
+fn push_stray(
+    alloc: Global,
+    printed: &[Printed],
+    edges: &[Edge],
+    steps: &mut Vec<PathStep>,
+) -> Result<(), OutOfMemory>
+    requires { All (λ edge. slice_get printed.now edge.caller.module ≡ None) edges.now }
+    ensures { OnOk result (steps.new.items ≡ steps.old.items ++ map (edge_among printed.now) edges.now) }
+{
+    for edge in edges {
+        let callee = function_of(alloc, printed, edge.callee)?;
+        steps.push(PathStep {
+            path: Text::of(alloc, "")?,
+            line: 1,
+            column: 1,
+            callee,
+        })?;
+    }
+    Ok(())
+}
+
+// The offsets of the edges.
+fn offsets_of(alloc: Global, edges: &[Edge]) -> Result<Vec<u32>, OutOfMemory>
+    ensures { IfOk result (λ offsets. offsets.items ≡ map (λ edge. edge.offset) edges.now) }
+{
+    let mut offsets = Vec::new(alloc);
+    for edge in edges {
+        offsets.push(edge.offset)?;
+    }
+    Ok(offsets)
+}
+
+// Adds edges whose callers are in this module, where these are their places.
+fn push_calls(
+    alloc: Global,
+    printed: &[Printed],
+    caller: &Printed,
+    edges: &[Edge],
+    places: &[Place],
+    steps: &mut Vec<PathStep>,
+) -> Result<(), OutOfMemory>
+    requires places { map spot_of places.now ≡ map (λ (edge : Edge). spot_at caller.now.text edge.offset) edges.now }
+    requires callers { All (λ edge. slice_get printed.now edge.caller.module ≡ Some caller.now) edges.now }
+    ensures { OnOk result (steps.new.items ≡ steps.old.items ++ map (edge_among printed.now) edges.now) }
+{
+    for i in 0..edges.len() {
+        let edge = &edges[i];
+        let place = &places[i];
+        let callee = function_of(alloc, printed, edge.callee)?;
+        steps.push(call_at(alloc, caller, place, callee)?)?;
+    }
+    Ok(())
+}
+
+// A call at the place, as it is printed.
+fn call_at(
+    alloc: Global,
+    caller: &Printed,
+    place: &Place,
+    callee: Shown,
+) -> Result<PathStep, OutOfMemory>
+    ensures { (offset : ℕ) → spot_of place.now ≡ spot_at caller.now.text offset → IfOk result (λ step. step ≡ call_in offset callee caller.now) }
+{
+    Ok(PathStep {
+        path: Text::of(alloc, caller.path())?,
+        line: place.line,
+        column: place.column,
+        callee,
+    })
+}
+
+// The function, as it is printed.
+fn function_of(
+    alloc: Global,
+    printed: &[Printed],
+    function: FunctionRef,
+) -> Result<Shown, OutOfMemory>
+    ensures { IfOk result (λ shown. shown ≡ function_among printed.now function) }
+{
+    match printed.get(function.module as usize) {
+        None => Ok(nowhere(alloc)),
+        Some(module) => module.function(alloc, function.function),
+    }
+}

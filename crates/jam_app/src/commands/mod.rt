@@ -1,0 +1,3 @@
+//! What the words ask for, and the text that each command owes.
+pub(crate) mod graph;
+pub(crate) mod request;

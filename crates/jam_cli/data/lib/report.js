@@ -1,0 +1,9 @@
+var format = require("./format");
+
+exports.print = function () {
+  format.line();
+};
+
+exports.summary = function () {
+  format.line();
+};
