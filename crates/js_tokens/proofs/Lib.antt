@@ -1,0 +1,6 @@
+pub mod FrontLemmas
+pub mod Machine
+pub mod MarkLemmas
+pub mod PlaceLemmas
+pub mod SortLemmas
+pub mod TokenLemmas

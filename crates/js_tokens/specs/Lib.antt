@@ -1,0 +1,5 @@
+pub mod Fronts
+pub mod Marks
+pub mod Placed
+pub mod Places
+pub mod Reading

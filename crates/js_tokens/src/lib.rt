@@ -1,0 +1,21 @@
+//! The tokens of a text, one by one (ECMA-262, clause 11).
+#![tactic(auto)]
+
+mod character;
+mod cut;
+mod fault;
+mod front;
+mod goal;
+mod lexer;
+mod mark;
+mod quoted;
+mod reach;
+mod steps;
+mod words;
+
+pub use fault::{LexFault, TakeFault, Unclosed};
+pub use goal::Goal;
+pub use lexer::{Lexer, Raw};
+
+#[cfg(test)]
+mod tests;

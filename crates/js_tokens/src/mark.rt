@@ -1,0 +1,374 @@
+//! Marks (ECMA-262, 11.7).
+ghost use Rattle.std.specs.Prelude.{◌≡◌};
+ghost use Rattle.js_tokens.specs.Marks as spec;
+
+/// Where a reader of a mark stands: behind a mark that may go on, or behind one that may not, with its place in the
+/// table of marks.
+#[derive(Clone, Copy, Debug)]
+pub enum MarkPart {
+    /// At its front.
+    Front,
+    /// Behind `.`.
+    Dot,
+    /// Behind `..`, which is no mark.
+    Dots,
+    /// Behind `<`.
+    Less,
+    /// Behind `>`.
+    Greater,
+    /// Behind `<<`.
+    Left,
+    /// Behind `>>`.
+    Right,
+    /// Behind `>>>`.
+    Unsigned,
+    /// Behind `=`.
+    Equal,
+    /// Behind `==`.
+    Equals,
+    /// Behind `!`.
+    Bang,
+    /// Behind `!=`.
+    Unequal,
+    /// Behind `+`.
+    Plus,
+    /// Behind `-`.
+    Minus,
+    /// Behind `*`.
+    Star,
+    /// Behind `**`.
+    Stars,
+    /// Behind `/`.
+    Slash,
+    /// Behind `%`.
+    Percent,
+    /// Behind `&`.
+    And,
+    /// Behind `|`.
+    Or,
+    /// Behind `^`.
+    Caret,
+    /// Behind a mark that doesn't go on, with its place.
+    Done(u8),
+    /// Past a mark.
+    Broken,
+}
+
+fn brackets(c: u8) -> MarkPart
+    ensures { result ≡ spec.brackets c }
+{
+    if c == b'{' {
+        MarkPart::Done(0)
+    } else if c == b'}' {
+        MarkPart::Done(1)
+    } else if c == b'(' {
+        MarkPart::Done(2)
+    } else if c == b')' {
+        MarkPart::Done(3)
+    } else if c == b'[' {
+        MarkPart::Done(4)
+    } else if c == b']' {
+        MarkPart::Done(5)
+    } else {
+        stops(c)
+    }
+}
+
+fn stops(c: u8) -> MarkPart
+    ensures { result ≡ spec.stops c }
+{
+    if c == b'.' {
+        MarkPart::Dot
+    } else if c == b';' {
+        MarkPart::Done(8)
+    } else if c == b',' {
+        MarkPart::Done(9)
+    } else if c == b'~' {
+        MarkPart::Done(33)
+    } else if c == b'?' {
+        MarkPart::Done(36)
+    } else if c == b':' {
+        MarkPart::Done(37)
+    } else {
+        orders(c)
+    }
+}
+
+fn orders(c: u8) -> MarkPart
+    ensures { result ≡ spec.orders c }
+{
+    if c == b'<' {
+        MarkPart::Less
+    } else if c == b'>' {
+        MarkPart::Greater
+    } else if c == b'=' {
+        MarkPart::Equal
+    } else if c == b'!' {
+        MarkPart::Bang
+    } else {
+        signs(c)
+    }
+}
+
+fn signs(c: u8) -> MarkPart
+    ensures { result ≡ spec.signs c }
+{
+    if c == b'+' {
+        MarkPart::Plus
+    } else if c == b'-' {
+        MarkPart::Minus
+    } else if c == b'*' {
+        MarkPart::Star
+    } else if c == b'/' {
+        MarkPart::Slash
+    } else if c == b'%' {
+        MarkPart::Percent
+    } else {
+        bits(c)
+    }
+}
+
+fn bits(c: u8) -> MarkPart
+    ensures { result ≡ spec.bits c }
+{
+    if c == b'&' {
+        MarkPart::And
+    } else if c == b'|' {
+        MarkPart::Or
+    } else if c == b'^' {
+        MarkPart::Caret
+    } else {
+        MarkPart::Broken
+    }
+}
+
+/// Where a byte leads in a mark.
+pub fn mark_next(part: MarkPart, c: u8) -> MarkPart
+    ensures { result ≡ spec.next part c }
+{
+    match part {
+        MarkPart::Front => brackets(c),
+        MarkPart::Dot => {
+            if c == b'.' {
+                MarkPart::Dots
+            } else {
+                MarkPart::Broken
+            }
+        }
+        MarkPart::Dots => {
+            if c == b'.' {
+                MarkPart::Done(7)
+            } else {
+                MarkPart::Broken
+            }
+        }
+        MarkPart::Less => {
+            if c == b'<' {
+                MarkPart::Left
+            } else if c == b'=' {
+                MarkPart::Done(12)
+            } else {
+                MarkPart::Broken
+            }
+        }
+        MarkPart::Greater => {
+            if c == b'=' {
+                MarkPart::Done(13)
+            } else if c == b'>' {
+                MarkPart::Right
+            } else {
+                MarkPart::Broken
+            }
+        }
+        MarkPart::Left => {
+            if c == b'=' {
+                MarkPart::Done(45)
+            } else {
+                MarkPart::Broken
+            }
+        }
+        MarkPart::Right => {
+            if c == b'=' {
+                MarkPart::Done(46)
+            } else if c == b'>' {
+                MarkPart::Unsigned
+            } else {
+                MarkPart::Broken
+            }
+        }
+        MarkPart::Unsigned => {
+            if c == b'=' {
+                MarkPart::Done(47)
+            } else {
+                MarkPart::Broken
+            }
+        }
+        MarkPart::Equal => {
+            if c == b'=' {
+                MarkPart::Equals
+            } else if c == b'>' {
+                MarkPart::Done(51)
+            } else {
+                MarkPart::Broken
+            }
+        }
+        MarkPart::Equals => {
+            if c == b'=' {
+                MarkPart::Done(16)
+            } else {
+                MarkPart::Broken
+            }
+        }
+        MarkPart::Bang => {
+            if c == b'=' {
+                MarkPart::Unequal
+            } else {
+                MarkPart::Broken
+            }
+        }
+        MarkPart::Unequal => {
+            if c == b'=' {
+                MarkPart::Done(17)
+            } else {
+                MarkPart::Broken
+            }
+        }
+        MarkPart::Plus => {
+            if c == b'+' {
+                MarkPart::Done(24)
+            } else if c == b'=' {
+                MarkPart::Done(39)
+            } else {
+                MarkPart::Broken
+            }
+        }
+        MarkPart::Minus => {
+            if c == b'-' {
+                MarkPart::Done(25)
+            } else if c == b'=' {
+                MarkPart::Done(40)
+            } else {
+                MarkPart::Broken
+            }
+        }
+        MarkPart::Star => {
+            if c == b'*' {
+                MarkPart::Stars
+            } else if c == b'=' {
+                MarkPart::Done(41)
+            } else {
+                MarkPart::Broken
+            }
+        }
+        MarkPart::Stars => {
+            if c == b'=' {
+                MarkPart::Done(44)
+            } else {
+                MarkPart::Broken
+            }
+        }
+        MarkPart::Slash => {
+            if c == b'=' {
+                MarkPart::Done(42)
+            } else {
+                MarkPart::Broken
+            }
+        }
+        MarkPart::Percent => {
+            if c == b'=' {
+                MarkPart::Done(43)
+            } else {
+                MarkPart::Broken
+            }
+        }
+        MarkPart::And => {
+            if c == b'&' {
+                MarkPart::Done(34)
+            } else if c == b'=' {
+                MarkPart::Done(48)
+            } else {
+                MarkPart::Broken
+            }
+        }
+        MarkPart::Or => {
+            if c == b'=' {
+                MarkPart::Done(49)
+            } else if c == b'|' {
+                MarkPart::Done(35)
+            } else {
+                MarkPart::Broken
+            }
+        }
+        MarkPart::Caret => {
+            if c == b'=' {
+                MarkPart::Done(50)
+            } else {
+                MarkPart::Broken
+            }
+        }
+        MarkPart::Done(_) => MarkPart::Broken,
+        MarkPart::Broken => MarkPart::Broken,
+    }
+}
+
+/// Whether a mark may end there.
+pub fn mark_may_end(part: MarkPart) -> bool
+    ensures { result ≡ spec.may_end part }
+{
+    match part {
+        MarkPart::Front => false,
+        MarkPart::Dot => true,
+        MarkPart::Dots => false,
+        MarkPart::Less => true,
+        MarkPart::Greater => true,
+        MarkPart::Left => true,
+        MarkPart::Right => true,
+        MarkPart::Unsigned => true,
+        MarkPart::Equal => true,
+        MarkPart::Equals => true,
+        MarkPart::Bang => true,
+        MarkPart::Unequal => true,
+        MarkPart::Plus => true,
+        MarkPart::Minus => true,
+        MarkPart::Star => true,
+        MarkPart::Stars => true,
+        MarkPart::Slash => true,
+        MarkPart::Percent => true,
+        MarkPart::And => true,
+        MarkPart::Or => true,
+        MarkPart::Caret => true,
+        MarkPart::Done(_) => true,
+        MarkPart::Broken => false,
+    }
+}
+
+/// The place of the mark in the table.
+pub fn mark_place(part: MarkPart) -> u8
+    ensures { result ≡ spec.place part }
+{
+    match part {
+        MarkPart::Front => 0,
+        MarkPart::Dot => 6,
+        MarkPart::Dots => 0,
+        MarkPart::Less => 10,
+        MarkPart::Greater => 11,
+        MarkPart::Left => 26,
+        MarkPart::Right => 27,
+        MarkPart::Unsigned => 28,
+        MarkPart::Equal => 38,
+        MarkPart::Equals => 14,
+        MarkPart::Bang => 32,
+        MarkPart::Unequal => 15,
+        MarkPart::Plus => 18,
+        MarkPart::Minus => 19,
+        MarkPart::Star => 20,
+        MarkPart::Stars => 23,
+        MarkPart::Slash => 21,
+        MarkPart::Percent => 22,
+        MarkPart::And => 29,
+        MarkPart::Or => 30,
+        MarkPart::Caret => 31,
+        MarkPart::Done(place) => place,
+        MarkPart::Broken => 0,
+    }
+}
