@@ -4,3 +4,4 @@ pub mod MarkLemmas
 pub mod PlaceLemmas
 pub mod SortLemmas
 pub mod TokenLemmas
+pub mod WordLemmas

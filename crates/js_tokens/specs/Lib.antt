@@ -3,3 +3,4 @@ pub mod Marks
 pub mod Placed
 pub mod Places
 pub mod Reading
+pub mod Words

@@ -6,6 +6,7 @@ pub mod kind;
 mod node;
 mod part;
 mod token;
+mod token_kind;
 mod tree;
 mod walk;
 
@@ -13,6 +14,7 @@ pub use form::Form;
 pub use node::{Node, push_parts};
 pub use part::{EscapePart, NumberPart, RegexPart, StringPart, TemplatePart, TriviaPart};
 pub use token::{Token, TokenClass};
+pub use token_kind::TokenKind;
 pub use tree::{
     Arguments, Block, Expr, Function, Init, Listed, Params, Pattern, Slot, Stmt, Tail, Tree,
 };
