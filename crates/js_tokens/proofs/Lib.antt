@@ -5,3 +5,6 @@ pub mod PlaceLemmas
 pub mod SortLemmas
 pub mod TokenLemmas
 pub mod WordLemmas
+pub mod AheadLemmas
+pub mod HeldLemmas
+pub mod PieceLemmas

@@ -1,13 +1,17 @@
 -- How marks go on.
-use Rattle.std.proofs.Common.{◌≡◌, ℕ, ◌==◌, ◌&&◌, ◌||◌, ◌-◌, ◌<◌, ◌≤◌, nat_lt, ⊎_elim, Bool, true, false, if◌then◌else◌, ◌⊎◌, inl, inr, List, [], ◌∷◌, ◌++◌, refl, sym, ap, ◌∙◌, subst, arith, length, take, get_or, true≢false}
+use Rattle.std.proofs.Common.{◌≡◌, ℕ, zero, suc, ◌==◌, ◌&&◌, ◌||◌, ◌-◌, ◌<◌, ◌≤◌, nat_lt, ⊎_elim, Bool, true, false, if◌then◌else◌, ◌⊎◌, inl, inr, List, [], ◌∷◌, ◌++◌, refl, sym, ap, ◌∙◌, subst, arith, length, take, get_or, true≢false}
 use Rattle.std.proofs.lemmas.Bool.{cases_order}
 use Rattle.std.proofs.lemmas.Bool.Decides.{nat_tests}
+use Rattle.std.proofs.Math.Seq.{take-length}
 use Rattle.std.proofs.lemmas.List.{get_or_past, length-take-le, get_or-take}
 use Rattle.std.proofs.lemmas.List.Folds.{list_any_at}
 use Rattle.std.proofs.lemmas.Slice.Eq.{bytes_eq-Decides}
 use Rattle.std.specs.List.{fold, list_all, list_any}
 use Rattle.std.specs.Str.{bytes_eq}
+use Rattle.js_tree.specs.Lexical.{ReadsBytes}
 use Rattle.js_tree.specs.Lexical.Mark.{marks, is_mark}
+use Rattle.js_tree.specs.Lexing.{place_in}
+use Rattle.js_tokens.specs.Reading.{Reached}
 use Rattle.js_tokens.specs.Placed.{IsPlaced}
 use Rattle.js_tokens.specs.declared.reach.MarkEnd.{MarkEnd}
 use Rattle.js_tokens.specs.Marks.{next, may_end, place, text_of, brackets, stops, orders, signs, bits}
@@ -164,3 +168,44 @@ mark_ascii text n le h =
 
     some : 0 < n
     some = omega (arith, size, long (take n text) is_low)
+
+-- the table has no mark twice
+abbrev all_apart : ℕ → Bool
+all_apart zero = true
+all_apart (suc n) = (place_in marks (get_or marks n []) == n) && all_apart n
+
+apart : (n k : ℕ) → all_apart n ≡ true → k < n → place_in marks (get_or marks k []) ≡ k
+apart zero k e lt = absurd (omega (arith, lt))
+apart (suc n) k e lt = by_test (k == n) refl (apart n k)
+  where
+    front : (a b : Bool) → (a && b) ≡ true → a ≡ true
+    front true b e = refl
+    front false b e = absurd (true≢false (sym e))
+
+    back : (a b : Bool) → (a && b) ≡ true → b ≡ true
+    back true b e = e
+    back false b e = absurd (true≢false (sym e))
+
+    before : (k == n) ≡ false → k < n
+    before f = grind (arith, nat_tests)
+
+    by_test : (b : Bool) → (k == n) ≡ b → (all_apart n ≡ true → k < n → place_in marks (get_or marks k []) ≡ k) → place_in marks (get_or marks k []) ≡ k
+    by_test true f others =
+        ap (λ (m : ℕ). place_in marks (get_or marks m [])) (same k n f) ∙ same _ n (front (place_in marks (get_or marks n []) == n) (all_apart n) e) ∙ sym (same k n f)
+    by_test false f others = others (back (place_in marks (get_or marks n []) == n) (all_apart n) e) (before f)
+
+-- the place of a mark that was found is that of the table
+pub one_place : (text : List ℕ) (m : MarkEnd) → is_mark text ≡ true → Reached (ReadsBytes next may_end part.Front) text m.len → IsPlaced text m → m.place ≡ place_in marks text
+one_place text m h r placed =
+    let whole : m.len ≡ length text = ⊎_elim (λ (e : m.len ≡ length text). e) (⊎_elim (λ (lt : m.len < length text). absurd (r.none (length text) lt (omega arith) (ends_whole lt))) (λ (gt : length text < m.len). absurd (omega (arith, gt, r.within)))) (cases_order m.len (length text)) in
+    let some : 0 < m.len = omega (arith, whole, (mark_ascii text (length text) (omega arith) (ap is_mark (take-length text) ∙ h)).0) in
+    let e : text ≡ get_or marks m.place [] = sym (ap (λ (n : ℕ). take n text) whole ∙ take-length text) ∙ placed some in
+    let below : m.place < length marks = ⊎_elim (λ (eq : m.place ≡ length marks). absurd (past e (omega (arith, eq)) (omega (arith, whole, some))))
+    (⊎_elim (λ (lt : m.place < length marks). lt) (λ (gt : length marks < m.place). absurd (past e (omega (arith, gt)) (omega (arith, whole, some))))) (cases_order m.place (length marks)) in
+    sym (ap (place_in marks) e ∙ apart (length marks) m.place refl below)
+  where
+    ends_whole : m.len < length text → ReadsBytes next may_end part.Front (take (length text) text)
+    ends_whole lt = ap (λ (t : List ℕ). may_end (fold next part.Front t)) (take-length text) ∙ accepted text h
+
+    past : text ≡ get_or marks m.place [] → length marks ≤ m.place → 0 < length text → ⊥
+    past e far some = omega (arith, some, ap length e, ap length (get_or_past marks m.place [] far))

@@ -99,7 +99,7 @@ parts false false true false e = absurd (true≢false (sym e))
 pub span : (c k : ℕ) → c ≡ 97 + k → k < 26 → IsSpan c (get_or firsts k 0) (get_or firsts (k + 1) 0)
 span c k e lt =
     let p = parts (list_any (head_is (97 + k)) (take (get_or firsts k 0) words)) (list_any (head_is (97 + k)) (drop (get_or firsts (k + 1) 0) words))
-        (nat_le (get_or firsts k 0) (get_or firsts (k + 1) 0)) (nat_le (get_or firsts (k + 1) 0) 37) (below 26 k refl lt) in
+    (nat_le (get_or firsts k 0) (get_or firsts (k + 1) 0)) (nat_le (get_or firsts (k + 1) 0) 37) (below 26 k refl lt) in
     record {
       before = ap (λ (x : ℕ). list_any (head_is x) (take (get_or firsts k 0) words)) e ∙ p.0;
       behind = ap (λ (x : ℕ). list_any (head_is x) (drop (get_or firsts (k + 1) 0) words)) e ∙ p.1.0;

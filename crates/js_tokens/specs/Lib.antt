@@ -1,5 +1,8 @@
+pub mod Ahead
 pub mod Fronts
+pub mod Kinds
 pub mod Marks
+pub mod Pieces
 pub mod Placed
 pub mod Places
 pub mod Reading

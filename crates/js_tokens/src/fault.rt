@@ -55,3 +55,28 @@ impl From<OutOfMemory> for TakeFault {
         TakeFault::OutOfMemory
     }
 }
+
+/// Why a reader of tokens stopped.
+#[derive(Clone, Copy, Debug, PartialEq, Eq, Error)]
+pub enum TokenFault {
+    /// What stands next isn't read there.
+    #[error("unexpected token at {at}")]
+    Unexpected {
+        /// The offset in bytes, from 0, where the next token begins or would begin.
+        at: u32,
+    },
+    /// A growth found no memory.
+    #[error("out of memory")]
+    OutOfMemory,
+}
+
+impl From<OutOfMemory> for TokenFault {
+    ghost use Rattle.std.specs.Prelude.{◌≡◌};
+    ghost use Rattle.js_tokens.specs.declared.fault.TokenFault.TheVariants as fault;
+
+    ghost from_gives = { λ _ e. e ≡ fault.OutOfMemory };
+
+    fn from(_: OutOfMemory) -> TokenFault {
+        TokenFault::OutOfMemory
+    }
+}

@@ -30,8 +30,8 @@ pub struct Raw<'t> {
 /// A place in a text: what is left of it, and the offset in bytes.
 #[derive(Drop)]
 pub struct Lexer<'t> {
-    left: &'t str,
-    at: u32,
+    pub(crate) left: &'t str,
+    pub(crate) at: u32,
 }
 
 impl<'t> Model for Lexer<'t> {
@@ -90,7 +90,7 @@ impl<'t> Lexer<'t> {
     }
 
     // The same token, and the text behind it.
-    fn ahead(&self, goal: Goal) -> Result<Ahead<'t>, LexFault>
+    pub(crate) fn ahead(&self, goal: Goal) -> Result<Ahead<'t>, LexFault>
         ensures found { IfOk result (λ next. IsRaw goal self.now next.raw × (next.left.now ≡ drop (next.raw.start - self.now.at + length next.raw.text.now) self.now.left)) }
         ensures fault { IfErr result (IsFault goal self.now) }
         ensures only { (gap : ℕ) (c : TokenClass) (n : ℕ) → IsCutFor goal self.now gap c n → IsOkAnd result (λ next. IsOfCut self.now gap c n next.raw) }
@@ -129,7 +129,7 @@ impl<'t> Lexer<'t> {
 
 // A token and the text behind it.
 #[derive(Clone, Copy)]
-struct Ahead<'t> {
-    raw: Raw<'t>,
-    left: &'t str,
+pub(crate) struct Ahead<'t> {
+    pub(crate) raw: Raw<'t>,
+    pub(crate) left: &'t str,
 }

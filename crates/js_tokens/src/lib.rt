@@ -6,16 +6,19 @@ mod cut;
 mod fault;
 mod front;
 mod goal;
+mod kinds;
 mod lexer;
 mod mark;
 mod quoted;
 mod reach;
+mod reader;
 mod steps;
 mod words;
 
-pub use fault::{LexFault, TakeFault, Unclosed};
+pub use fault::{LexFault, TakeFault, TokenFault, Unclosed};
 pub use goal::Goal;
 pub use lexer::{Lexer, Raw};
+pub use reader::TokenReader;
 
 #[cfg(test)]
 mod tests;

@@ -1,6 +1,6 @@
 //! What texts give, one token at a time.
-use crate::{Goal, LexFault, Lexer, Unclosed};
-use js_tree::TokenClass;
+use crate::{Goal, LexFault, Lexer, TokenFault, TokenReader, Unclosed};
+use js_tree::{TokenClass, TokenKind};
 use std::process::Abort;
 use std::test::Fail;
 
@@ -223,6 +223,74 @@ fn tokens_are_taken_in_turn(rt: HostRuntime) -> Result<(), Fail> {
         Err(fault) => {
             assert!(rt; fault == LexFault::Char { at: 15 });
         }
+    }
+    Ok(())
+}
+
+// The kind of the next token.
+fn is_kind(rt: &impl Abort, reader: &TokenReader<'_>, want: TokenKind) {
+    let kind = reader.kind();
+    assert!(rt; kind == want, "{kind:?} in place of {want:?}");
+}
+
+#[test]
+fn the_next_token_is_held(rt: HostRuntime) -> Result<(), Fail> {
+    let alloc = rt.alloc();
+    let mut reader = TokenReader::new("a\n= /b/g + `c${ d }e`; typeof");
+    is_kind(&rt, &reader, TokenKind::Name);
+    let name = reader.take(alloc, Goal::Operand)?;
+    assert!(rt; name.text.as_str() == "a" && !reader.is_at_end());
+    is_kind(&rt, &reader, TokenKind::Assign);
+    assert!(rt; reader.nl_before() && reader.start() == 2);
+    reader.take(alloc, Goal::Operator)?;
+    is_kind(&rt, &reader, TokenKind::Slash);
+    let pattern = reader.take(alloc, Goal::Operand)?;
+    assert!(rt; pattern.class == TokenClass::Regex && pattern.text.as_str() == "/b/g");
+    reader.take(alloc, Goal::Operator)?;
+    is_kind(&rt, &reader, TokenKind::TemplateHead);
+    reader.take(alloc, Goal::Operand)?;
+    reader.take(alloc, Goal::Operand)?;
+    is_kind(&rt, &reader, TokenKind::RightBrace);
+    let tail = reader.take(alloc, Goal::Template)?;
+    assert!(rt; tail.text.as_str() == "}e`");
+    reader.take(alloc, Goal::Operator)?;
+    is_kind(&rt, &reader, TokenKind::Typeof);
+    reader.take(alloc, Goal::Operand)?;
+    is_kind(&rt, &reader, TokenKind::End);
+    assert!(rt; reader.is_at_end());
+    match reader.take(alloc, Goal::Operand) {
+        Ok(_) => {
+            panic!(rt; "a token behind the text");
+        }
+        Err(fault) => {
+            assert!(rt; fault == TokenFault::Unexpected { at: 29 });
+        }
+    }
+    Ok(())
+}
+
+#[test]
+fn each_word_and_mark_has_its_kind(rt: HostRuntime) -> Result<(), Fail> {
+    for (text, want) in [
+        ("break", TokenKind::Break),
+        ("with", TokenKind::With),
+        ("instanceof", TokenKind::Instanceof),
+        ("in", TokenKind::In),
+        ("let", TokenKind::Let),
+        ("of", TokenKind::Name),
+        ("breaks", TokenKind::Name),
+        ("Break", TokenKind::Name),
+        ("{", TokenKind::LeftBrace),
+        (">>>=", TokenKind::UnsignedShiftAssign),
+        ("=>", TokenKind::Arrow),
+        ("...", TokenKind::Dots),
+        ("1", TokenKind::Number),
+        ("''", TokenKind::Str),
+        ("``", TokenKind::TemplateWhole),
+        ("@", TokenKind::End),
+        ("", TokenKind::End),
+    ] {
+        is_kind(&rt, &TokenReader::new(text), want);
     }
     Ok(())
 }

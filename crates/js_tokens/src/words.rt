@@ -47,7 +47,8 @@ const WORDS: [&[u8]; 37] = [
 
 /// How many words begin with a letter before each of `a` to `z`, and in the last place all of them.
 const FIRSTS: [u8; 27] = [
-    0, 0, 1, 6, 10, 14, 18, 18, 18, 22, 22, 22, 23, 23, 25, 25, 25, 25, 26, 28, 33, 33, 35, 37, 37, 37, 37
+    0, 0, 1, 6, 10, 14, 18, 18, 18, 22, 22, 22, 23, 23, 25, 25, 25, 25, 26, 28, 33, 33, 35, 37, 37,
+    37, 37,
 ];
 
 fn are_same(a: &[u8], b: &[u8]) -> bool

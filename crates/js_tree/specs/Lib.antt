@@ -3,6 +3,7 @@ pub mod Folds
 pub mod Kinds
 pub mod Lexing
 pub mod Parts
+pub mod Pieces
 pub mod Spelling
 pub mod Spells
 pub mod TokenKinds
