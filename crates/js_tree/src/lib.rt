@@ -1,12 +1,14 @@
 //! Tokens, the trees that they spell, and how a text spells a tree (ECMA-262, clauses 11 to 15).
 #![tactic(auto)]
 
+mod escape;
 mod form;
 pub mod kind;
 mod node;
 mod part;
 mod token;
 mod tree;
+mod value;
 mod walk;
 
 pub use form::Form;
@@ -16,4 +18,8 @@ pub use token::{Token, TokenClass};
 pub use tree::{
     Arguments, Block, Expr, Function, Init, Listed, Params, Pattern, Slot, Stmt, Tail, Tree,
 };
+pub use value::string_value;
 pub use walk::{Gather, walk_tree};
+
+#[cfg(test)]
+mod tests;
