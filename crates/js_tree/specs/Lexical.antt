@@ -7,6 +7,7 @@ pub mod Quoted
 pub mod Template
 pub mod Regex
 pub mod Mark
+pub mod Value
 use Rattle.std.specs.Prelude.{◌≡◌, ℕ, ◌+◌, ◌≤◌, ◌==◌, ◌&&◌, ◌||◌, Bool, true, false, List, [], ◌∷◌, length, take, drop, slice_index, nat_eq, codes, if◌then◌else◌}
 use Rattle.std.specs.List.{list_any, fold, starts_with}
 use Rattle.std.specs.Str.{IsUtf8, chars, bytes_eq}

@@ -1,6 +1,7 @@
 //! Tokens, the trees that they spell, and how a text spells a tree (ECMA-262, clauses 11 to 15).
 #![tactic(auto)]
 
+mod escape;
 mod form;
 pub mod kind;
 mod node;
@@ -8,6 +9,7 @@ mod part;
 mod token;
 mod token_kind;
 mod tree;
+mod value;
 mod walk;
 
 pub use form::Form;
@@ -18,4 +20,8 @@ pub use token_kind::TokenKind;
 pub use tree::{
     Arguments, Block, Expr, Function, Init, Listed, Params, Pattern, Slot, Stmt, Tail, Tree,
 };
+pub use value::string_value;
 pub use walk::{Gather, walk_tree};
+
+#[cfg(test)]
+mod tests;
