@@ -5,4 +5,5 @@ pub mod Lexing
 pub mod Parts
 pub mod Spelling
 pub mod Spells
+pub mod Tokens
 pub mod Lexical
