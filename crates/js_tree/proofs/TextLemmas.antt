@@ -1,18 +1,26 @@
 -- What the tokens of a text are: each has a place of its own, below the end of the text.
-use Rattle.std.proofs.Common.{◌≡◌, ℕ, ◌+◌, ◌-◌, ◌<◌, ◌≤◌, ◌==◌, Bool, true, false, cond, not, ◌||◌, nat_le, nat_lt, List, [], ◌∷◌, ◌++◌, drop, length, length-append, length-drop, append_assoc, refl, sym, ap, ◌∙◌, subst, arith}
+use Rattle.std.proofs.Common.{◌≡◌, ℕ, ◌+◌, ◌-◌, ◌<◌, ◌≤◌, ◌==◌, Bool, true, false, cond, not, ◌||◌, nat_le, nat_lt, List, [], ◌∷◌, ◌++◌, map, drop, length, length-append, length-drop, append_assoc, refl, sym, ap, ◌∙◌, subst, arith}
 use Rattle.std.specs.List.{AllByRecursion, count_by, flat_map}
 use Rattle.std.proofs.lemmas.Bool.Decides.{Decides-ltb, nat_tests}
 use Rattle.std.proofs.lemmas.List.Sums.{sum_by-append, sum_by-cons}
 use Rattle.js_tree.specs.declared.token.Token.{Token}
 use Rattle.js_tree.specs.declared.token.TokenClass.{TokenClass}
 use Rattle.js_tree.specs.declared.token.TokenClass.TheVariants as class
+use Rattle.js_tree.specs.declared.tree.Arguments.{Arguments}
+use Rattle.js_tree.specs.declared.tree.Expr.{Expr, out-Expr}
+use Rattle.js_tree.specs.declared.tree.Expr.TheOpen.{Expr-F, Function-F}
+use Rattle.js_tree.specs.declared.tree.Function.{Function, out-Function}
+use Rattle.js_tree.specs.declared.tree.Stmt.{Stmt}
+use Rattle.js_tree.specs.declared.tree.Tail.{Tail}
+use Rattle.js_tree.specs.declared.tree.Tail.TheVariants as tail
 use Rattle.js_tree.specs.declared.tree.Tree.{Tree}
+use Rattle.js_tree.specs.Folds.{ExprLayer, FunctionLayer}
 use Rattle.js_tree.specs.Lexing.{IsOf, LexesTo, Next, Place, ahead, start_of}
-use Rattle.js_tree.specs.Parts.{Node, ABody, parts}
+use Rattle.js_tree.specs.Parts.{Node, AnExpr, AFunction, APattern, AStmt, ASlot, ATail, ABody, expr_parts, items_in, parts, tails_behind}
 use Rattle.js_tree.specs.Spelling.{tokens_of}
 use Rattle.js_tree.specs.Spells.{Spells, limit}
-use Rattle.js_tree.specs.Tokens.{IsInText, IsOfText, own_tokens, tokens_in}
-use Rattle.js_tree.proofs.GatherLemmas.{each_back, each_front}
+use Rattle.js_tree.specs.Tokens.{IsInText, IsOfText, expr_tokens, function_tokens, own_tokens, tokens_in}
+use Rattle.js_tree.proofs.GatherLemmas.{along_parts, each_back, each_front}
 use Rattle.js_tree.proofs.TokenLemmas.{covered, tokens_are}
 
 abbrev one_if : Bool → ℕ
@@ -195,3 +203,69 @@ parts_in_text n h = each (parts n) (own_tokens n) (tokens_are n)
           once = λ s. (let o = h.once s in let a = ap (at_start s) e in let b = counts_both (λ (t : Token). t.start == s) ts (tokens_in m ++ rest) in let c = counts_both (λ (t : Token). t.start == s) (tokens_in m) rest in omega (arith, o, a, b, c));
         } in
         (one, each ms (ts ++ tokens_in m) (e ∙ sym (append_assoc ts (tokens_in m) rest)))
+
+-- SOME TOKEN
+
+abbrev pub total : List Node → ℕ
+total ns = length (flat_map tokens_in ns)
+
+pub total_more : (m : Node) (ms : List Node) → total (m ∷ ms) ≡ length (tokens_in m) + total ms
+total_more m ms = length-append (tokens_in m) (flat_map tokens_in ms)
+
+pub tokens_count : (n : Node) → length (tokens_in n) ≡ length (own_tokens n) + total (parts n)
+tokens_count n = ap (λ ts. length ts) (tokens_are n) ∙ length-append (own_tokens n) (flat_map tokens_in (parts n))
+
+-- an expression and a function have a token
+abbrev Begins : Node → Type 0
+Begins (AnExpr x) = 0 < length (tokens_in (AnExpr x))
+Begins (AFunction x) = 0 < length (tokens_in (AFunction x))
+Begins _ = Unit {0}
+
+expr_begins : (x : Expr) (y : ExprLayer) → out-Expr x ≡ y → AllByRecursion Begins (expr_parts y) → Begins (AnExpr x)
+expr_begins x y e each = by y (tokens_count (AnExpr x) ∙ (λ i. length (expr_tokens (e i)) + total (expr_parts (e i)))) each
+  where
+    by : (l : ExprLayer) → length (tokens_in (AnExpr x)) ≡ length (expr_tokens l) + total (expr_parts l) → AllByRecursion Begins (expr_parts l) → 0 < length (tokens_in (AnExpr x))
+    by (Expr-F.Assign target op value) f h = let a = h.1.0 in let b = total_more (APattern target) (AnExpr value ∷ []) in let c = total_more (AnExpr value) [] in omega (arith, f, a, b, c)
+    by (Expr-F.Chain head tails) f h = let a = h.0 in let b = total_more (AnExpr head) (tails_behind head [] tails) in omega (arith, f, a, b)
+    by (Expr-F.«Expr::Fun» function) f h = let a = h.0 in let b = total_more (AFunction function) [] in omega (arith, f, a, b)
+    by (Expr-F.Literal t) f h = omega (arith, f)
+    by (Expr-F.«Expr::Name» t) f h = omega (arith, f)
+
+function_begins : (x : Function) → 0 < length (tokens_in (AFunction x))
+function_begins x = by (out-Function x) (tokens_count (AFunction x))
+  where
+    by : (l : FunctionLayer) → length (tokens_in (AFunction x)) ≡ length (function_tokens l) + total (parts (AFunction x)) → 0 < length (tokens_in (AFunction x))
+    by (Function-F.Keyword word name params body) f = omega (arith, f)
+
+pub some_token : (x : Expr) → 0 < length (tokens_in (AnExpr x))
+some_token x = along_parts Begins by_node (AnExpr x)
+  where
+    by_node : (n : Node) → AllByRecursion Begins (parts n) → Begins n
+    by_node (AnExpr y) each = expr_begins y (out-Expr y) refl each
+    by_node (AFunction y) each = function_begins y
+    by_node (APattern y) each = tt
+    by_node (AStmt y) each = tt
+    by_node (ASlot y) each = tt
+    by_node (ATail head before t) each = tt
+    by_node (ABody body) each = tt
+
+-- there are no more expressions than tokens in them
+pub few_exprs : (xs : List Expr) → length xs ≤ length (flat_map tokens_in (map AnExpr xs))
+few_exprs [] = omega arith
+few_exprs (x ∷ xs) = let a = some_token x in let b = few_exprs xs in let c = total_more (AnExpr x) (map AnExpr xs) in omega (arith, a, b, c)
+
+-- a call has fewer arguments than the text has bytes
+pub few_arguments : (head : Expr) (before : List (Tail Expr)) (a : Arguments Expr) → IsInText (ATail head before (tail.Call a)) → length (items_in a.items) < limit
+few_arguments head before a h = let few = h.few in let c = tokens_count (ATail head before (tail.Call a)) in let e = few_exprs (items_in a.items) in omega (arith, few, c, e)
+
+-- the statements of a function are in the text if it is
+pub body_in_text : (f : Function) (body : List Stmt) → parts (AFunction f) ≡ map AStmt body → IsInText (AFunction f) → IsInText (ABody body)
+body_in_text f body e h =
+    let t : tokens_in (AFunction f) ≡ own_tokens (AFunction f) ++ tokens_in (ABody body) = tokens_are (AFunction f) ∙ ap (λ ps. own_tokens (AFunction f) ++ flat_map tokens_in ps) e ∙ ap (λ ts. own_tokens (AFunction f) ++ ts) (sym (tokens_are (ABody body))) in
+    let few = h.few in
+    let l = ap (λ (us : List Token). length us) t ∙ length-append (own_tokens (AFunction f)) (tokens_in (ABody body)) in
+    record {
+      few = omega (arith, few, l);
+      each = each_back IsOfText (own_tokens (AFunction f)) (tokens_in (ABody body)) (subst (AllByRecursion IsOfText) t h.each);
+      once = λ s. (let o = h.once s in let a = ap (at_start s) t ∙ counts_both (λ (u : Token). u.start == s) (own_tokens (AFunction f)) (tokens_in (ABody body)) in omega (arith, o, a));
+    }
