@@ -6,8 +6,8 @@ use Rattle.std.specs.Cmp.{IsTotalOrder}
 use Rattle.std.specs.List.{AllByRecursion}
 use Rattle.std.specs.List.Sorted.{IsStrictlySortedBy}
 use Rattle.std.specs.Ordering.{ordering_reverse}
-use Rattle.js_scopes.specs.Ascending.{ascending, with_item}
-use Rattle.js_scopes.proofs.Merging.{IsLess, IsEqual, IsGreater, case_of, item_less, item_equal, item_greater}
+use Rattle.jam_base.specs.Ascending.{ascending, with_item}
+use Rattle.jam_base.proofs.Merging.{IsLess, IsEqual, IsGreater, case_of, item_less, item_equal, item_greater}
 use Rattle.flow_rules.proofs.RuleLemmas.{below_all}
 
 -- one of the items has the property

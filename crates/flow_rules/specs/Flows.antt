@@ -14,7 +14,7 @@ use Rattle.js_tree.specs.Folds.{ExprLayer, PatternLayer, SlotLayer}
 use Rattle.js_tree.specs.Parts.{Node, AnExpr, AFunction, APattern, ASlot, ATail, ABody, init_parts, gathered}
 use Rattle.js_scopes.specs.declared.binding.Binding.{Binding}
 use Rattle.js_scopes.specs.declared.binding.Binding.TheVariants as binding
-use Rattle.js_scopes.specs.Ascending.{ascending}
+use Rattle.jam_base.specs.Ascending.{ascending}
 use Rattle.js_scopes.specs.Scopes.{Known, functions_of, holder_in, known_of, name_in, sites_of, start_of}
 use Rattle.flow_rules.specs.declared.module.Flow.{Flow}
 use Rattle.flow_rules.specs.declared.module.ModuleNote.{ModuleNote}

@@ -13,8 +13,8 @@ use crate::notes::{Notes, Standing};
 use crate::numbered::Numbered;
 use crate::required::Requires;
 use crate::{Constraints, Flow, ModuleNote, Require};
-use jam_base::{List, OutOfMemory};
-use js_scopes::{Bindings, FunctionInfo, Known, ascending, functions, sites_with};
+use jam_base::{List, OutOfMemory, ascending};
+use js_scopes::{Bindings, FunctionInfo, Known, functions, sites_with};
 use js_tree::{Node, Tree, walk_tree};
 use std::alloc::Global;
 

@@ -7,8 +7,7 @@ ghost use Rattle.std.proofs.lemmas.Cmp.{eq_by_cmp_equiv};
 ghost use Rattle.flow_rules.specs.Vertices.{vertex_key, flow_order};
 
 use crate::Vertex;
-use jam_base::Text;
-use js_scopes::Ranked;
+use jam_base::{Ranked, Text};
 use std::cmp::Ordering;
 
 /// Each value at `from` comes to `to`.

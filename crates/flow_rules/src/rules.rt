@@ -8,7 +8,8 @@ ghost use Rattle.flow_rules.specs.Vertices.{vertex_key};
 ghost use Rattle.flow_rules.specs.Rules.{AreFunctions, HasArg, HasFunction, HasParam, HasRequire, HasSite, IsFlow, IsFunction, IsNamed, IsNumbered, IsOrdered, IsRequire, IsShort, IsSite, IsSiteAt, KeepsRules};
 
 use crate::{Flow, ModuleNote, Require, Vertex};
-use js_scopes::{FunctionInfo, Ranked, SiteInfo};
+use jam_base::Ranked;
+use js_scopes::{FunctionInfo, SiteInfo};
 use std::marker::Model;
 
 // How many items 32 bits don't number.

@@ -24,7 +24,7 @@ use Rattle.js_scopes.specs.declared.binding.BoundName.{BoundName}
 use Rattle.js_scopes.specs.declared.binding.WrapperName.TheVariants as wrapper
 use Rattle.js_scopes.specs.declared.function.FunctionInfo.{FunctionInfo}
 use Rattle.js_scopes.specs.declared.site.SiteInfo.{SiteInfo}
-use Rattle.js_scopes.specs.Ascending.{ascending}
+use Rattle.jam_base.specs.Ascending.{ascending}
 use Rattle.js_scopes.specs.Names.{Scope, Numbering, Around, firsts, function_number, wrapper_name, binding_at}
 
 -- what is known of a module: what the name at an offset means, and the number of the function that starts at an offset

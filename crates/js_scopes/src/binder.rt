@@ -1,9 +1,11 @@
 //! The meanings of the names of a module.
-ghost use Rattle.std.specs.Prelude.{◌≡◌, ℕ, [], ◌∷◌, map, nat_lt, IfOk};
+ghost use Rattle.std.specs.Prelude.{◌≡◌, ◌<◌, ℕ, [], ◌∷◌, length, map, nat_lt, IfOk};
 ghost use Rattle.std.specs.List.{count_by};
 ghost use Rattle.std.specs.List.Sorted.{IsNonDecreasingBy, IsNonDecreasing};
 ghost use Rattle.js_tree.specs.declared.token.Token.{Token as GhostToken};
 ghost use Rattle.js_tree.specs.Parts.{ABody};
+ghost use Rattle.js_tree.specs.Spells.{SpellsSome};
+ghost use Rattle.js_tree.specs.Tokens.{IsInText};
 ghost use Rattle.js_scopes.specs.declared.function.FunctionInfo.{FunctionInfo as GhostInfo};
 ghost use Rattle.js_scopes.specs.Meanings.{meaning_in};
 ghost use Rattle.js_scopes.specs.Names.{Numbering};
@@ -23,6 +25,7 @@ use std::alloc::Global;
 
 /// What each name means that a tree uses or declares.
 pub fn bind(alloc: Global, tree: &Tree) -> Result<Bindings, OutOfMemory>
+    requires { SpellsSome tree.now }
     ensures { IfOk result (λ bindings. (start : ℕ) → meaning_in bindings start ≡ binding_of tree.now start) }
 {
     let functions = inner_functions(alloc, tree)?;
@@ -41,17 +44,14 @@ fn names_in<'t>(
     scope: &Scope<'t>,
     tree: &'t Tree,
 ) -> Result<Vec<BoundName>, OutOfMemory>
+    requires spelled { IsInText (ABody tree.now.body) }
     requires functions { IsNonDecreasingBy (λ (f : GhostInfo). f.start) functions.now }
+    requires few_functions { length functions.now < 4294967295 }
     requires starts { IsNonDecreasing starts.now }
+    requires few_starts { length starts.now < 4294967296 }
     ensures { (n : Numbering) → n.functions ≡ functions.now → ((t : GhostToken) → names.local_number n t ≡ count_by (λ s. nat_lt s t.start) starts.now)
         → IfOk result (λ found. found.items ≡ names_in n (ABody tree.now.body) (record { scopes = scope.now ∷ []; holder = 0 })) }
 {
-    if functions.len() >= 4294967295 {
-        return Err(OutOfMemory);
-    }
-    if starts.len() >= 4294967296 {
-        return Err(OutOfMemory);
-    }
     let mut scopes = Vec::new(alloc);
     scopes.push(scope)?;
     let around = Surroundings {

@@ -1,7 +1,9 @@
 //! The call sites of a module.
-ghost use Rattle.std.specs.Prelude.{◌≡◌, ◌++◌, IfOk, OnOk};
+ghost use Rattle.std.specs.Prelude.{◌≡◌, ◌<◌, ◌++◌, length, IfOk, OnOk};
 ghost use Rattle.std.specs.Option.{option_map};
-ghost use Rattle.js_tree.specs.Parts.{items_in};
+ghost use Rattle.js_tree.specs.Parts.{ATail, items_in};
+ghost use Rattle.js_tree.specs.Spells.{SpellsSome};
+ghost use Rattle.js_tree.specs.Tokens.{IsInText};
 ghost use Rattle.js_scopes.specs.AtHand.{known_in};
 ghost use Rattle.js_scopes.specs.Scopes.{sites_of, sites_of_tail, arguments_sites, known_of};
 ghost use Rattle.js_scopes.specs.Scopes as seen;
@@ -11,22 +13,19 @@ use crate::calls::{is_required, push_own_sites};
 use crate::function::inner_functions;
 use crate::function_names::member_of;
 use crate::known::Known;
-use crate::order::ascending;
 use crate::site::SiteInfo;
-use jam_base::{List, OutOfMemory, Text};
+use jam_base::{List, OutOfMemory, Text, ascending};
 use js_tree::{Arguments, Expr, Function, Gather, Node, Tail, Tree, walk_tree};
 use sqlite_items::Boxed;
 use std::alloc::Global;
 
 /// The call sites of a tree, by offset and part.
 pub fn sites(alloc: Global, tree: &Tree) -> Result<List<SiteInfo>, OutOfMemory>
+    requires { SpellsSome tree.now }
     ensures { IfOk result (λ made. made ≡ sites_of tree.now) }
 {
     let bindings = bind(alloc, tree)?;
     let functions = inner_functions(alloc, tree)?;
-    if functions.len() >= 4294967295 {
-        return Err(OutOfMemory);
-    }
     let known = Known::of(&bindings, functions.as_slice());
     sites_with(alloc, tree, &known)
 }
@@ -37,7 +36,8 @@ pub fn sites_with(
     tree: &Tree,
     known: &Known<'_>,
 ) -> Result<List<SiteInfo>, OutOfMemory>
-    requires { known_in known.now ≡ known_of tree.now }
+    requires spelled { SpellsSome tree.now }
+    requires known { known_in known.now ≡ known_of tree.now }
     ensures { IfOk result (λ made. made ≡ sites_of tree.now) }
 {
     let mut out = Vec::new(alloc);
@@ -112,6 +112,7 @@ fn push_tail(
     holder: u32,
     out: &mut Vec<SiteInfo>,
 ) -> Result<(), OutOfMemory>
+    requires { IsInText (ATail head.now before.now tail.now) }
     ensures { OnOk result (out.new.items ≡ out.old.items ++ sites_of_tail (known_in known.now) holder head.now before.now tail.now) }
 {
     match tail {
@@ -130,6 +131,7 @@ fn push_call(
     holder: u32,
     out: &mut Vec<SiteInfo>,
 ) -> Result<(), OutOfMemory>
+    requires { length (items_in arguments.now.items) < 4294967296 }
     ensures { OnOk result (out.new.items ≡ out.old.items ++ arguments_sites holder required (option_map (λ t. t.now) member.entry) arguments.now.open.start (items_in arguments.now.items)) }
 {
     let items = arguments.items.as_slice();

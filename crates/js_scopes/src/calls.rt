@@ -1,5 +1,5 @@
 //! The sites of a call.
-ghost use Rattle.std.specs.Prelude.{◌≡◌, ◌++◌, ◌&&◌, [], is_some, if◌then◌else◌, OnOk};
+ghost use Rattle.std.specs.Prelude.{◌<◌, ◌≡◌, ◌++◌, ◌&&◌, [], is_some, if◌then◌else◌, OnOk};
 ghost use Rattle.std.specs.Option.{option_map};
 ghost use Rattle.js_tree.specs.declared.tree.Expr.{out-Expr};
 ghost use Rattle.js_tree.specs.Parts.{items_in};
@@ -55,6 +55,7 @@ pub(crate) fn push_own_sites(
     count: usize,
     out: &mut Vec<SiteInfo>,
 ) -> Result<(), OutOfMemory>
+    requires { count < 4294967296 }
     ensures { OnOk result (out.new.items ≡ out.old.items ++ (if is_required then [] else seen.call_sites holder (option_map (λ t. t.now) member.entry) offset count)) }
 {
     if is_required {
@@ -72,11 +73,10 @@ fn push_call_sites(
     count: usize,
     out: &mut Vec<SiteInfo>,
 ) -> Result<(), OutOfMemory>
+    requires { count < 4294967296 }
     ensures { OnOk result (out.new.items ≡ out.old.items ++ seen.call_sites holder (option_map (λ t. t.now) member.entry) offset count) }
 {
-    let Ok(args) = u32::try_from(count) else {
-        return Err(OutOfMemory);
-    };
+    let args = count as u32;
     out.push(SiteInfo {
         offset,
         part: 0,

@@ -1,6 +1,7 @@
 //! Where the names of a module are first declared.
 ghost use Rattle.std.specs.Prelude.{◌≡◌, ◌++◌, IfOk, OnOk};
-ghost use Rattle.js_tree.specs.Parts.{node_of};
+ghost use Rattle.js_tree.specs.Parts.{ABody, node_of};
+ghost use Rattle.js_tree.specs.Tokens.{IsInText};
 ghost use Rattle.js_scopes.specs.Walks.{local_starts, own_starts};
 
 use crate::declaration::Scope;
@@ -15,6 +16,7 @@ pub(crate) fn first_tokens(
     tree: &Tree,
     scope: &Scope<'_>,
 ) -> Result<Vec<u32>, OutOfMemory>
+    requires { IsInText (ABody tree.now.body) }
     ensures { IfOk result (λ starts. starts.items ≡ local_starts scope.now tree.now) }
 {
     let mut starts = Vec::new(alloc);
@@ -64,6 +66,7 @@ impl<'t> Gather<'t> for FirstStarts {
 
 // Adds those of the scope around the parts of a node.
 fn push_own_firsts(alloc: Global, node: Node<'_>, out: &mut Vec<u32>) -> Result<(), OutOfMemory>
+    requires { IsInText (node_of node) }
     ensures { OnOk result (out.new.items ≡ out.old.items ++ own_starts (node_of node.entry) tt) }
 {
     match scope_in(alloc, node)? {

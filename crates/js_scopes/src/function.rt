@@ -1,16 +1,17 @@
 //! The functions of a module.
-ghost use Rattle.std.specs.Prelude.{◌≡◌, ◌++◌, ◌∷◌, [], IfOk, OnOk};
+ghost use Rattle.std.specs.Prelude.{◌≡◌, ◌<◌, ◌++◌, ◌∷◌, [], length, IfOk, OnOk};
 ghost use Rattle.std.specs.List.{flat_map};
 ghost use Rattle.std.specs.List.Sorted.{IsNonDecreasingBy};
 ghost use Rattle.js_scopes.specs.declared.function.FunctionInfo.{FunctionInfo as GhostInfo};
 ghost use Rattle.js_tree.specs.declared.tree.Function.{out-Function};
-ghost use Rattle.js_tree.specs.Parts.{node_of};
+ghost use Rattle.js_tree.specs.Parts.{ABody, node_of};
+ghost use Rattle.js_tree.specs.Spells.{SpellsSome};
+ghost use Rattle.js_tree.specs.Tokens.{IsInText};
 ghost use Rattle.js_scopes.specs.Scopes.{functions_of, functions_in, own_functions, info_in, name_of};
 ghost use Rattle.js_scopes.specs.Scopes as seen;
 
 use crate::function_names::given_in;
-use crate::order::{Ranked, ascending};
-use jam_base::{List, OutOfMemory, Text};
+use jam_base::{List, OutOfMemory, Ranked, Text, ascending};
 use js_tree::{Function, Gather, Node, Token, Tree, walk_tree};
 use std::alloc::Global;
 use std::cmp::Ordering;
@@ -41,6 +42,7 @@ impl Ranked for FunctionInfo {
 
 /// The functions of a tree, the module's body first and the others by their start.
 pub fn functions(alloc: Global, tree: &Tree) -> Result<List<FunctionInfo>, OutOfMemory>
+    requires { SpellsSome tree.now }
     ensures { IfOk result (λ made. made ≡ functions_of tree.now) }
 {
     let mut inner = inner_functions(alloc, tree)?;
@@ -56,8 +58,10 @@ pub fn functions(alloc: Global, tree: &Tree) -> Result<List<FunctionInfo>, OutOf
 
 // The functions of a tree but the module's body, by their start.
 pub(crate) fn inner_functions(alloc: Global, tree: &Tree) -> Result<Vec<FunctionInfo>, OutOfMemory>
+    requires { IsInText (ABody tree.now.body) }
     ensures made { IfOk result (λ made. made.items ≡ seen.inner_functions tree.now) }
     ensures ascending { IfOk result (λ made. IsNonDecreasingBy (λ (f : GhostInfo). f.start) made.items) }
+    ensures few { IfOk result (λ made. length made.items < 4294967295) }
 {
     let mut inner = Vec::new(alloc);
     let body = Node::Body(tree.body.as_slice());

@@ -1,10 +1,11 @@
 //! What each name of a tree means where it stands.
-ghost use Rattle.std.specs.Prelude.{◌≡◌, ◌++◌, [], ◌∷◌, map, OnOk};
+ghost use Rattle.std.specs.Prelude.{All, ◌≡◌, ◌++◌, [], ◌∷◌, map, OnOk};
 ghost use Rattle.std.specs.List.{flat_map};
 ghost use Rattle.std.specs.Option.{option_map};
 ghost use Rattle.js_tree.specs.declared.tree.Expr.{out-Expr};
 ghost use Rattle.js_tree.specs.declared.tree.Pattern.{out-Pattern};
 ghost use Rattle.js_tree.specs.Parts.{node_of};
+ghost use Rattle.js_tree.specs.Tokens.{IsInText};
 ghost use Rattle.js_scopes.specs.Names as names;
 ghost use Rattle.js_scopes.specs.Names.{Numbering};
 ghost use Rattle.js_scopes.specs.Scopes as seen;
@@ -91,7 +92,8 @@ pub(crate) fn push_node<'t>(
     node: Node<'t>,
     out: &mut Vec<BoundName>,
 ) -> Result<(), OutOfMemory>
-    requires { AreReady numbers }
+    requires ready { AreReady numbers }
+    requires spelled { IsInText (node_of node) }
     ensures { (n : Numbering) → IsNumberedBy n numbers.entry → OnOk result (out.new.items ≡ out.old.items ++ names_in n (node_of node.entry) (around_of around.entry)) }
 {
     let mut parts = Vec::new(alloc);
@@ -121,7 +123,8 @@ fn push_nodes<'t>(
     nodes: &[Node<'t>],
     out: &mut Vec<BoundName>,
 ) -> Result<(), OutOfMemory>
-    requires { AreReady numbers }
+    requires ready { AreReady numbers }
+    requires spelled { All (λ x. IsInText (node_of x)) nodes.now }
     ensures { (n : Numbering) → IsNumberedBy n numbers.entry → OnOk result (out.new.items ≡ out.old.items ++ flat_map (λ x. names_in n (node_of x) (around_of around.entry)) nodes.now) }
 {
     for node in nodes {

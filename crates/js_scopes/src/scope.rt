@@ -6,7 +6,8 @@ ghost use Rattle.js_tree.specs.declared.tree.Expr.{out-Expr};
 ghost use Rattle.js_tree.specs.declared.tree.Function.{out-Function};
 ghost use Rattle.js_tree.specs.declared.tree.Pattern.{out-Pattern};
 ghost use Rattle.js_tree.specs.declared.tree.Stmt.{out-Stmt};
-ghost use Rattle.js_tree.specs.Parts.{node_of};
+ghost use Rattle.js_tree.specs.Parts.{ABody, AFunction, node_of};
+ghost use Rattle.js_tree.specs.Tokens.{IsInText};
 ghost use Rattle.js_scopes.specs.Names as names;
 ghost use Rattle.js_scopes.specs.Scopes as seen;
 ghost use Rattle.js_scopes.specs.Walks.{scopes_of};
@@ -23,6 +24,7 @@ pub(crate) fn body_scope<'t>(
     body: &'t [Stmt],
     in_module: bool,
 ) -> Result<Scope<'t>, OutOfMemory>
+    requires { IsInText (ABody body.now) }
     ensures { IfOk result (λ scope. scope ≡ seen.body_scope in_module body.now) }
 {
     Scope::of(alloc, declared_in(alloc, body, in_module)?)
@@ -34,6 +36,7 @@ fn declared_in<'t>(
     body: &'t [Stmt],
     in_module: bool,
 ) -> Result<Vec<&'t Token>, OutOfMemory>
+    requires { IsInText (ABody body.now) }
     ensures { IfOk result (λ scope. map (λ t. t.now) scope.items ≡ seen.body_scope in_module body.now) }
 {
     let mut scope = Vec::new(alloc);
@@ -155,6 +158,7 @@ pub fn own_name(function: &Function) -> Option<&Token>
 
 // The scope that stands around the parts of a node.
 pub(crate) fn scope_in<'t>(alloc: Global, node: Node<'t>) -> Result<Option<Scope<'t>>, OutOfMemory>
+    requires { IsInText (node_of node) }
     ensures { IfOk result (λ scope. scope ≡ seen.scope_in (node_of node.entry)) }
 {
     match node {
@@ -177,6 +181,7 @@ fn scope_in_expr(alloc: Global, value: &Expr) -> Result<Option<Scope<'_>>, OutOf
 }
 
 fn scope_in_function(alloc: Global, function: &Function) -> Result<Option<Scope<'_>>, OutOfMemory>
+    requires { IsInText (AFunction function.now) }
     ensures { IfOk result (λ scope. scope ≡ Some (seen.body_scope false (seen.body_in (out-Function function.now)))) }
 {
     match function {

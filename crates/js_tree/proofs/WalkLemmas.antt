@@ -1,10 +1,11 @@
 -- What is left to do on a walk.
-use Rattle.std.proofs.Common.{◌≡◌, ℕ, ◌+◌, List, [], ◌∷◌, ◌++◌, map, sum, reverse, refl, sym, ap, ◌∙◌, append_assoc, append-nil, arith, Option, Some, ◌<◌}
-use Rattle.std.specs.List.{flat_map, sum_by}
+use Rattle.std.proofs.Common.{◌≡◌, ℕ, ◌+◌, List, [], ◌∷◌, ◌++◌, map, sum, reverse, refl, sym, ap, ◌∙◌, append_assoc, append-nil, arith, subst, Option, Some, ◌<◌}
+use Rattle.std.specs.List.{AllByRecursion, flat_map, sum_by}
 use Rattle.std.proofs.lemmas.List.{reverse-append}
 use Rattle.std.proofs.lemmas.List.Sums.{sum-map, sum_by-cons, sum_by_push}
 use Rattle.std.proofs.lemmas.List.Folds.{flat_map-map}
 use Rattle.js_tree.specs.Parts.{Node, parts, count, gathered, left_in}
+use Rattle.js_tree.proofs.GatherLemmas.{each_both}
 use Rattle.js_tree.proofs.PartLemmas.{map_again, all_gathered, gathered_is, count_is}
 
 pub left_last : {X B : Type 0} (give : X → List B) (xs : List X) (x : X) → left_in give (xs ++ x ∷ []) ≡ give x ++ left_in give xs
@@ -53,6 +54,18 @@ fewer_left n size before after pend node ys same put each =
     let e = sum-map count (parts n) in
     let k = count_is n in
     omega (arith, a, b, d, e, k, each)
+
+-- what each item has that is put on top, each has that is left to do
+pub each_put : {X Y : Type 0} (P : X → Type 0) (pend : Y → X) (before : List X) (ys : List Y) → AllByRecursion P before → AllByRecursion (λ y. P (pend y)) ys → AllByRecursion P (before ++ reverse (map pend ys))
+each_put P pend before [] a b = subst (AllByRecursion P) (sym (append-nil before)) a
+each_put P pend before (y ∷ ys) a b =
+    let zs = map pend ys in
+    let e : reverse (pend y ∷ zs) ≡ reverse zs ++ pend y ∷ [] = reverse-append (pend y ∷ []) zs in
+    subst (AllByRecursion P) (append_assoc before (reverse zs) (pend y ∷ []) ∙ ap (λ us. before ++ us) (sym e)) (each_both P (before ++ reverse zs) (pend y ∷ []) (each_put P pend before ys a b.1) (b.0, tt))
+
+pub each_seen : {X Y : Type 0} (P : X → Type 0) (f : Y → X) (ys : List Y) → AllByRecursion P (map f ys) → AllByRecursion (λ y. P (f y)) ys
+each_seen P f [] a = tt
+each_seen P f (y ∷ ys) a = (a.0, each_seen P f ys a.1)
 
 -- what is added to nothing
 pub from_nothing : {A B : Type 0} (f : A → B) (old new : List A) (xs : List B) → old ≡ [] → map f new ≡ map f old ++ xs → map f new ≡ xs

@@ -7,4 +7,5 @@ pub mod Pieces
 pub mod Spelling
 pub mod Spells
 pub mod TokenKinds
+pub mod Tokens
 pub mod Lexical

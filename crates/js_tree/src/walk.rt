@@ -1,8 +1,9 @@
 //! A walk over a tree.
 ghost use Rattle.std.specs.Prelude.{◌≡◌, ◌<◌, ◌+◌, ◌++◌, [], List, Option, map, reverse, OnOk};
-ghost use Rattle.std.specs.List.{sum_by};
+ghost use Rattle.std.specs.List.{AllByRecursion, sum_by};
 ghost use Rattle.std.specs.Option.{option_map};
 ghost use Rattle.js_tree.specs.Parts.{Node as GhostNode, count, gathered, left_in, node_of};
+ghost use Rattle.js_tree.specs.Tokens.{IsInText};
 
 use crate::node::{Node, push_parts};
 use jam_base::OutOfMemory;
@@ -40,6 +41,7 @@ pub trait Gather<'t> {
         around: Self::Around,
         out: &mut Vec<Self::Item>,
     ) -> Result<(), OutOfMemory>
+        requires { IsInText (node_of node) }
         ensures { OnOk result (map given out.new.items ≡ map given out.old.items ++ own self.now (node_of node.entry) (place around)) };
 
     /// What stands around the parts of a node, unless they are passed over.
@@ -47,7 +49,7 @@ pub trait Gather<'t> {
         ensures { option_map place result ≡ inside self.now (node_of node.entry) (place around) };
 }
 
-/// Adds what is gathered from a node, where this stands around it.
+/// Adds what is gathered from a node of a text, where this stands around it.
 pub fn walk_tree<'t, G: Gather<'t>>(
     alloc: Global,
     by: &G,
@@ -55,6 +57,7 @@ pub fn walk_tree<'t, G: Gather<'t>>(
     around: G::Around,
     out: &mut Vec<G::Item>,
 ) -> Result<(), OutOfMemory>
+    requires { IsInText (node_of node) }
     ensures { OnOk result (map G.given out.new.items ≡ map G.given out.old.items ++ gathered (G.own by.now) (G.inside by.now) (node_of node.entry) (G.place around)) }
 {
     let mut parts = Vec::new(alloc);
@@ -82,8 +85,11 @@ fn visit<'t, G: Gather<'t>>(
     left: &mut Vec<Pending<'t, G::Around>>,
     out: &mut Vec<G::Item>,
 ) -> Result<(), OutOfMemory>
-    requires { parts.old.items ≡ [] }
+    requires empty { parts.old.items ≡ [] }
+    requires next { IsInText (node_of next.node) }
+    requires left { AllByRecursion (λ p. IsInText (node_of p.node)) left.old.items }
     ensures empty { OnOk result (parts.new.items ≡ []) }
+    ensures left { OnOk result (AllByRecursion (λ p. IsInText (node_of p.node)) left.new.items) }
     ensures gathers { OnOk result (map G.given out.new.items ++ left_in (λ p. gathered (G.own by.now) (G.inside by.now) (node_of p.node) (G.place p.around)) left.new.items
         ≡ map G.given out.old.items ++ gathered (G.own by.now) (G.inside by.now) (node_of next.entry.node) (G.place next.entry.around)
         ++ left_in (λ p. gathered (G.own by.now) (G.inside by.now) (node_of p.node) (G.place p.around)) left.old.items) }

@@ -1,6 +1,6 @@
 use Rattle.std.proofs.Common.{◌≡◌, ap, ◌∙◌}
 use Rattle.js_scopes.specs.AtHand.{known_in}
-use Rattle.js_scopes.specs.Ascending.{ascending}
+use Rattle.jam_base.specs.Ascending.{ascending}
 use Rattle.js_tree.specs.Parts.{ABody}
 use Rattle.js_tree.proofs.WalkLemmas.{items_from_nothing}
 use Rattle.flow_rules.specs.Flows.{facts_of, flows_in}

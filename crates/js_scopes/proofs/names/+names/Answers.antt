@@ -1,13 +1,16 @@
-use Rattle.std.proofs.Common.{◌≡◌, List, Bor, ◌++◌, ◌∷◌, map, sym, ap, ◌∙◌, arith, Some, None}
-use Rattle.std.specs.List.{flat_map}
+use Rattle.std.proofs.Common.{◌≡◌, List, Bor, ◌++◌, ◌∷◌, map, subst, sym, ap, ◌∙◌, arith, Some, None}
+use Rattle.std.specs.List.{AllByRecursion, flat_map}
 use Rattle.std.specs.Option.{option_map}
 use Rattle.std.proofs.lemmas.List.{take_all}
+use Rattle.std.proofs.lemmas.List.Elements.{All-from_recursion}
 use Rattle.std.proofs.lemmas.Result.{on_ok_weaker}
 use Rattle.js_tree.specs.declared.node.Node.{Node as Given}
 use Rattle.js_tree.specs.declared.token.Token.{Token}
 use Rattle.js_tree.specs.Parts.{node_of, parts}
 use Rattle.js_tree.proofs.GatherLemmas.{gathered_through, parts_lower}
-use Rattle.js_tree.proofs.WalkLemmas.{from_nothing}
+use Rattle.js_tree.specs.Tokens.{IsInText}
+use Rattle.js_tree.proofs.TextLemmas.{parts_in_text}
+use Rattle.js_tree.proofs.WalkLemmas.{each_seen, from_nothing}
 use Rattle.js_scopes.specs.Names.{Around}
 use Rattle.js_scopes.specs.Scopes.{around_in, around_with, names_in, number_in, own_names, scope_in}
 use Rattle.js_scopes.specs.Around.{around_of}
@@ -20,7 +23,7 @@ push_node-push_nodes-requires t c =
     let m = node_of c.args.node in
     let same_parts : map node_of c.as_slice.result.now ≡ parts m = ap (map node_of) c.as_slice.ensures.value ∙ from_nothing node_of _ _ (parts m) c.new-parts.ensures.items (c.in_ok-push_parts.ensures {u = tt}) in
     let l = parts_lower m c.as_slice.result.now same_parts in
-    (omega (arith, l), c.requires)
+    (omega (arith, l), (c.requires.ready, All-from_recursion (λ x. IsInText (node_of x)) _ (each_seen IsInText node_of _ (subst (AllByRecursion IsInText) (sym same_parts) (parts_in_text m c.requires.spelled)))))
 
 pub push_node-returns-in-None : goal.push_node-returns-in-None
 push_node-returns-in-None t c n same =
@@ -54,7 +57,7 @@ push_node-push_nodes-requires-in-Some t c =
     let m = node_of c.args.node in
     let same_parts : map node_of c.as_slice-in-Some-2.result.now ≡ parts m = ap (map node_of) c.as_slice-in-Some-2.ensures.value ∙ from_nothing node_of _ _ (parts m) c.new-parts.ensures.items (c.in_ok-push_parts.ensures {u = tt}) in
     let l = parts_lower m c.as_slice-in-Some-2.result.now same_parts in
-    (omega (arith, l), c.requires)
+    (omega (arith, l), (c.requires.ready, All-from_recursion (λ x. IsInText (node_of x)) _ (each_seen IsInText node_of _ (subst (AllByRecursion IsInText) (sym same_parts) (parts_in_text m c.requires.spelled)))))
 
 pub push_nodes-loop-node-preserved : goal.push_nodes-loop-node-preserved
 push_nodes-loop-node-preserved t c n same =
