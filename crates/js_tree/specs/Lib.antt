@@ -2,6 +2,7 @@ pub mod Characters
 pub mod Folds
 pub mod Kinds
 pub mod Lexing
+pub mod Line
 pub mod Parts
 pub mod Pieces
 pub mod Spelling

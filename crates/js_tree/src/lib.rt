@@ -4,8 +4,10 @@
 mod escape;
 mod form;
 pub mod kind;
+mod line;
 mod node;
 mod part;
+mod spelling;
 mod token;
 mod token_kind;
 mod tree;
@@ -15,6 +17,7 @@ mod walk;
 pub use form::Form;
 pub use node::{Node, push_parts};
 pub use part::{EscapePart, NumberPart, RegexPart, StringPart, TemplatePart, TriviaPart};
+pub use spelling::spell;
 pub use token::{Token, TokenClass};
 pub use token_kind::TokenKind;
 pub use tree::{
