@@ -1,12 +1,16 @@
 #!/bin/sh
-# Prints the bytes per second of the lexer alone over three texts of 8 MB: code of ASCII, its names and comments, and
+# Prints the bytes per second of the lexer alone over two texts of 8 MB, each read ten times: code of ASCII, and code with
 # Greek names and comments. It builds a small program over a copy of the crates below the lexer, outside the repository;
 # the first run proves them there.
 set -eu
 top=$(cd "$(dirname "$0")/.." && pwd)
 folder=${1:-$(mktemp -d)}
-mkdir -p "$folder/crates"
-cp -r "$top/crates/jam_base" "$top/crates/js_tree" "$top/crates/js_tokens" "$folder/crates/"
+for crate in jam_base js_tree js_tokens; do
+    mkdir -p "$folder/crates/$crate"
+    for part in src specs proofs; do
+        cp -r "$top/crates/$crate/$part" "$folder/crates/$crate/"
+    done
+done
 grep -E '^(jam_base|js_tree|js_tokens):' "$top/crates.txt" > "$folder/crates.txt"
 echo 'lexed: js_tree js_tokens' >> "$folder/crates.txt"
 mkdir -p "$folder/crates/lexed/src"
@@ -16,11 +20,12 @@ cat > "$folder/crates/lexed/src/main.rt" <<'RATTLE'
 
 use js_tokens::{Goal, TokenReader};
 use js_tree::TokenKind;
+use std::alloc::Global;
 use std::fs;
 use std::io;
 
 // The number of tokens; where an operator can't stand, `/` begins a regular expression.
-fn count(alloc: std::alloc::Global, reader: &mut TokenReader<'_>) -> u64 {
+fn count(alloc: Global, reader: &mut TokenReader<'_>) -> u64 {
     let mut tokens = 0;
     for _ in 0..u64::MAX {
         let goal = match reader.kind() {
@@ -39,14 +44,44 @@ fn count(alloc: std::alloc::Global, reader: &mut TokenReader<'_>) -> u64 {
 
 fn main(rt: HostRuntime) -> io::Result<()> {
     let alloc = rt.alloc();
-    let text = fs::read_to_string(&rt, alloc, "index.js")?;
+    let text = fs::read_to_string(&rt, "index.js")?;
     if text.len() > 8388608 {
         println!(rt; "too large")?;
         return Ok(());
     }
-    let mut reader = TokenReader::new(text.as_str());
-    let tokens = count(alloc, &mut reader);
-    println!(rt; "{tokens} tokens, at the end: {}", reader.is_at_end())?;
+    for _ in 0..10 {
+        let mut reader = TokenReader::new(text.as_str());
+        let tokens = count(alloc, &mut reader);
+        println!(rt; "{tokens} tokens, at the end: {}", reader.is_at_end())?;
+    }
     Ok(())
 }
 RATTLE
+(cd "$folder/crates/lexed" && printf 'a = 1;\n' > index.js && rt run)
+cd "$folder"
+python3 - <<'PYTHON'
+import random, resource, subprocess
+
+random.seed(7)
+ascii_names = ["value", "index", "result", "options", "callback", "module", "length", "self", "request", "error", "data", "key"]
+greek_names = ["αριθμός", "κλειδί", "τιμή", "όνομα", "λίστα", "δεδομένα", "σφάλμα", "μήνυμα"]
+
+def code(names):
+    lines = []
+    size = 0
+    while size < 8_000_000:
+        a, b, c = random.choice(names), random.choice(names), random.choice(names)
+        line = f"  if ({a} === {b}.{c}) {{ return {a}({b}, 12); }}\n  var {c} = {a} + \"text\"; // {b} {a}\n"
+        lines.append(line)
+        size += len(line.encode())
+    return "".join(lines)
+
+for what, text in [("code of ASCII", code(ascii_names)), ("Greek names and comments", code(greek_names))]:
+    with open("index.js", "w", encoding="utf-8") as file:
+        file.write(text)
+    size = len(text.encode())
+    before = resource.getrusage(resource.RUSAGE_CHILDREN).ru_utime
+    told = subprocess.run(["crates/lexed/out/lexed"], capture_output=True, text=True).stdout.split("\n")[0]
+    seconds = (resource.getrusage(resource.RUSAGE_CHILDREN).ru_utime - before) / 10
+    print(f"{what}: {told}, {size} bytes, {seconds:.3f} s of the processor, {size / seconds / 1e6:.0f} MB/s")
+PYTHON

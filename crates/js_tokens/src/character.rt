@@ -1,13 +1,23 @@
 //! Characters (ECMA-262, 11.2, 11.3 and 11.6).
-ghost use Rattle.std.specs.Prelude.{◌≡◌, ◌<◌, IfSome, None, length};
+ghost use Rattle.std.specs.Prelude.{◌≡◌, ◌<◌, ◌&&◌, nat_le, IfSome, None, length};
 ghost use Rattle.std.specs.Str.{IsCharBoundary};
 ghost use Rattle.js_tree.specs.Lexical.Character as spec;
 ghost use Rattle.js_tokens.specs.Reading.{IsCharAt};
+
+// Whether the character is a letter, digit or sign of ASCII, as most are.
+fn is_plain(c: char) -> bool
+    ensures { result ≡ (nat_le 33 c && nat_le c 126) }
+{
+    '!' <= c && c <= '~'
+}
 
 /// Whether the character is a line end.
 pub fn is_line_end(c: char) -> bool
     ensures { result ≡ spec.is_line_end c }
 {
+    if is_plain(c) {
+        return false;
+    }
     c == '\n' || c == '\r' || c == '\u{2028}' || c == '\u{2029}'
 }
 
@@ -15,6 +25,9 @@ pub fn is_line_end(c: char) -> bool
 pub fn is_space(c: char) -> bool
     ensures { result ≡ spec.is_space c }
 {
+    if is_plain(c) {
+        return false;
+    }
     c == '\t'
         || c == '\u{b}'
         || c == '\u{c}'

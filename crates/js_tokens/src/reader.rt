@@ -167,7 +167,8 @@ impl<'t> TokenReader<'t> {
         let text = Text::of(alloc, next.raw.text)?;
         let lexer = behind(&self.lexer, goal, next);
         let held = held_at(&lexer);
-        *self = TokenReader { lexer, held };
+        self.lexer = lexer;
+        self.held = held;
         Ok(Token {
             text,
             start: next.raw.start,
