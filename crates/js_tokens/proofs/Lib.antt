@@ -1,3 +1,4 @@
+pub mod CharacterLemmas
 pub mod FrontLemmas
 pub mod Machine
 pub mod MarkLemmas

@@ -1,9 +1,9 @@
 -- How marks go on.
-use Rattle.std.proofs.Common.{◌≡◌, ℕ, zero, suc, ◌==◌, ◌&&◌, ◌||◌, ◌-◌, ◌<◌, ◌≤◌, nat_lt, ⊎_elim, Bool, true, false, if◌then◌else◌, ◌⊎◌, inl, inr, List, [], ◌∷◌, ◌++◌, refl, sym, ap, ◌∙◌, subst, arith, length, take, get_or, true≢false}
+use Rattle.std.proofs.Common.{◌≡◌, ℕ, zero, suc, ◌+◌, ◌==◌, ◌&&◌, ◌||◌, ◌-◌, ◌<◌, ◌≤◌, nat_lt, ⊎_elim, Bool, true, false, if◌then◌else◌, ◌⊎◌, inl, inr, List, [], ◌∷◌, ◌++◌, refl, sym, ap, ◌∙◌, subst, arith, length, take, get_or, true≢false}
 use Rattle.std.proofs.lemmas.Bool.{cases_order}
 use Rattle.std.proofs.lemmas.Bool.Decides.{nat_tests}
 use Rattle.std.proofs.Math.Seq.{take-length}
-use Rattle.std.proofs.lemmas.List.{get_or_past, length-take-le, get_or-take}
+use Rattle.std.proofs.lemmas.List.{take_more, get_or_past, length-take-le, get_or-take}
 use Rattle.std.proofs.lemmas.List.Folds.{list_any_at}
 use Rattle.std.proofs.lemmas.Slice.Eq.{bytes_eq-Decides}
 use Rattle.std.specs.List.{fold, list_all, list_any}
@@ -11,10 +11,11 @@ use Rattle.std.specs.Str.{bytes_eq}
 use Rattle.js_tree.specs.Lexical.{ReadsBytes}
 use Rattle.js_tree.specs.Lexical.Mark.{marks, is_mark}
 use Rattle.js_tree.specs.Lexing.{place_in}
-use Rattle.js_tokens.specs.Reading.{Reached}
+use Rattle.js_tokens.proofs.Machine.{whole_bytes, broken_bytes}
+use Rattle.js_tokens.specs.Reading.{Reached, SofarBytes}
 use Rattle.js_tokens.specs.Placed.{IsPlaced}
 use Rattle.js_tokens.specs.declared.reach.MarkEnd.{MarkEnd}
-use Rattle.js_tokens.specs.Marks.{next, may_end, place, text_of, brackets, stops, orders, signs, bits}
+use Rattle.js_tokens.specs.Marks.{next, may_end, is_done, place, text_of, brackets, stops, orders, signs, bits}
 use Rattle.js_tokens.specs.declared.mark.MarkPart.{MarkPart}
 use Rattle.js_tokens.specs.declared.mark.MarkPart.TheVariants as part
 
@@ -168,6 +169,24 @@ mark_ascii text n le h =
 
     some : 0 < n
     some = omega (arith, size, long (take n text) is_low)
+
+-- the text grows by a byte that doesn't lead past all marks
+pub grown_by : (text : List ℕ) (n : ℕ) (p q : MarkPart) → n < length text → take n text ≡ text_of p → q ≡ next p (get_or text n 0) → (q ≡ part.Broken → ⊥) → take (n + 1) text ≡ text_of q
+grown_by text n p q lt was led on =
+    ⊎_elim (λ (e : next p (get_or text n 0) ≡ part.Broken). absurd (on (led ∙ e)))
+    (λ (e : text_of (next p (get_or text n 0)) ≡ text_of p ++ get_or text n 0 ∷ []). take_more text n 0 lt ∙ ap (λ (xs : List ℕ). xs ++ get_or text n 0 ∷ []) was ∙ sym e ∙ ap text_of (sym led))
+    (grows p (get_or text n 0))
+
+done_breaks : (p : MarkPart) (c : ℕ) → is_done p ≡ true → next p c ≡ part.Broken
+done_breaks (part.Done k) c h = refl
+done_breaks _ c h = absurd (true≢false (sym h))
+
+-- where no mark goes on the longest one has been met
+pub done_reached : (text : List ℕ) (n last : ℕ) (p : MarkPart) → SofarBytes next may_end part.Front text n last p → is_done p ≡ true → Reached (ReadsBytes next may_end part.Front) text last
+done_reached text n last p so h =
+    ⊎_elim (λ (e : n ≡ length text). whole_bytes next may_end part.Front part.Broken (λ _. refl) refl text n last p so (omega (arith, e)))
+    (⊎_elim (λ (lt : n < length text). broken_bytes next may_end part.Front part.Broken (λ _. refl) refl text n last p so lt (done_breaks p (get_or text n 0) h)) (λ (gt : length text < n). absurd (omega (arith, gt, so.within))))
+    (cases_order n (length text))
 
 -- the table has no mark twice
 abbrev all_apart : ℕ → Bool

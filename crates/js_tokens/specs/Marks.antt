@@ -52,6 +52,11 @@ may_end part.Dots = false
 may_end part.Broken = false
 may_end _ = true
 
+-- no mark goes on there
+abbrev pub is_done : MarkPart → Bool
+is_done (part.Done k) = true
+is_done _ = false
+
 -- the place of the mark in the table
 abbrev pub place : MarkPart → ℕ
 place part.Front = 0

@@ -1,5 +1,6 @@
 //! Characters (ECMA-262, 11.2, 11.3 and 11.6).
-ghost use Rattle.std.specs.Prelude.{◌≡◌, ◌<◌, ◌&&◌, nat_le, IfSome, None, length};
+ghost use Rattle.std.specs.Prelude.{◌≡◌, ◌<◌, ◌&&◌, ◌||◌, ◌==◌, nat_le, IfSome, None, length};
+ghost use Rattle.std.specs.Char.{is_ascii_alphabetic, is_ascii_alphanumeric};
 ghost use Rattle.std.specs.Str.{IsCharBoundary};
 ghost use Rattle.js_tree.specs.Lexical.Character as spec;
 ghost use Rattle.js_tokens.specs.Reading.{IsCharAt};
@@ -45,14 +46,34 @@ pub fn is_space(c: char) -> bool
 pub fn is_start(c: char) -> bool
     ensures { result ≡ spec.is_start c }
 {
+    if c < '\u{80}' {
+        return is_ascii_start(c);
+    }
     unicode_ident::is_xid_start(c) || c == '$' || c == '_'
+}
+
+// The same, of ASCII.
+fn is_ascii_start(c: char) -> bool
+    ensures { result ≡ (is_ascii_alphabetic c || c == 36 || c == 95) }
+{
+    c.is_ascii_alphabetic() || c == '$' || c == '_'
 }
 
 /// Whether a name may go on with the character.
 pub fn is_part(c: char) -> bool
     ensures { result ≡ spec.is_part c }
 {
+    if c < '\u{80}' {
+        return is_ascii_part(c);
+    }
     unicode_ident::is_xid_continue(c) || c == '$' || c == '\u{200c}' || c == '\u{200d}'
+}
+
+// The same, of ASCII.
+fn is_ascii_part(c: char) -> bool
+    ensures { result ≡ (is_ascii_alphanumeric c || c == 95 || c == 36) }
+{
+    c.is_ascii_alphanumeric() || c == '_' || c == '$'
 }
 
 /// Whether the byte is a decimal digit.

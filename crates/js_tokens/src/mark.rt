@@ -372,3 +372,13 @@ pub fn mark_place(part: MarkPart) -> u8
         MarkPart::Broken => 0,
     }
 }
+
+/// Whether no mark goes on there.
+pub fn mark_is_done(part: MarkPart) -> bool
+    ensures { result ≡ spec.is_done part }
+{
+    match part {
+        MarkPart::Done(_) => true,
+        _ => false,
+    }
+}

@@ -10,7 +10,7 @@ ghost use Rattle.js_tokens.specs.Marks as marks;
 ghost use Rattle.js_tokens.specs.Reading.{Reached};
 
 use crate::character::{char_at, is_line_end, is_part, is_start};
-use crate::mark::{MarkPart, mark_may_end, mark_next, mark_place};
+use crate::mark::{MarkPart, mark_is_done, mark_may_end, mark_next, mark_place};
 use crate::quoted::{
     escape_next, is_plain, regex_may_end, regex_next, string_may_end, string_next,
     template_may_end, template_next,
@@ -56,6 +56,9 @@ pub fn mark_len(bytes: &[u8]) -> MarkEnd
         }
         n += 1;
         last = kept_mark(part, n, last);
+        if mark_is_done(part) {
+            return last;
+        }
     }
     last
 }
