@@ -23,7 +23,7 @@ use Rattle.js_tree.specs.Folds.{ExprLayer, FunctionLayer, PatternLayer, StmtLaye
 use Rattle.js_tree.specs.Parts as whole
 use Rattle.js_tree.specs.Parts.{Node, AnExpr, AFunction, APattern, AStmt, ASlot, ATail, ABody, as_nodes, items_in, expr_parts, parts, tails_behind, count, left_in}
 use Rattle.js_tree.specs.Spelling.{Piece, Seen, one, maybe, each_of, listed_line, params_line, tail_line, init_line, expr, function, pattern, stmt, slot, stmts, tokens}
-use Rattle.js_tree.specs.Line.{LineItem, AToken, ANode, possible, listed, body_line, in_expr, in_function, in_pattern, in_stmt, in_slot, in_tail, line_of, spelling_of, tokens_in, tokens_at, work_for}
+use Rattle.js_tree.specs.Line.{LineItem, AToken, ANode, possible, listed, body_items, expr_items, function_items, pattern_items, stmt_items, slot_items, tail_items, line_of, spelling_of, tokens_in, tokens_at, work_for}
 use Rattle.js_tree.proofs.GatherLemmas.{along_parts}
 use Rattle.js_tree.proofs.PartLemmas.{items_seen, count_is}
 use Rattle.js_tree.proofs.WalkLemmas.{left_more, sum_more, sum_mapped}
@@ -67,7 +67,7 @@ listed_spelled node see same (x ∷ xs) each rest ps ts e =
     ∙ ap (λ us. tokens_in (node x.item) ++ us) (maybe_spelled x.comma COMMA behind (listed node xs ++ ps) ts later)
     ∙ ap (λ qs. tokens_in (node x.item) ++ spelled qs ts) (sym (append_assoc (possible x.comma) (listed node xs) ps))
 
-body_spelled : (xs : List Stmt) → AllByRecursion Puts (map AStmt xs) → (rest : List Piece) (ps : List LineItem) (ts : List Token) → tokens rest ≡ spelled ps ts → tokens (stmts xs rest) ≡ spelled (body_line xs ++ ps) ts
+body_spelled : (xs : List Stmt) → AllByRecursion Puts (map AStmt xs) → (rest : List Piece) (ps : List LineItem) (ts : List Token) → tokens rest ≡ spelled ps ts → tokens (stmts xs rest) ≡ spelled (body_items xs ++ ps) ts
 body_spelled [] each rest ps ts e = e
 body_spelled (x ∷ xs) each rest ps ts e = each.0 (stmts xs rest) ∙ ap (λ us. tokens_in (AStmt x) ++ us) (body_spelled xs each.1 rest ps ts e)
 
@@ -75,7 +75,7 @@ tails_spelled : (head : Expr) (before tails : List (Tail Expr)) → AllByRecursi
 tails_spelled head before [] each rest = refl
 tails_spelled head before (t ∷ ts) each rest = each.0 (each_of (tail_line expr) ts rest) ∙ ap (λ us. tokens_in (ATail head before t) ++ us) (tails_spelled head (before ++ t ∷ []) ts each.1 rest)
 
-expr_spelled : (x : Expr) (l : ExprLayer) → x ≡ roll-Expr l → AllByRecursion Puts (expr_parts l) → (rest : List Piece) → tokens ((expr x).line rest) ≡ spelled (in_expr l) (tokens rest)
+expr_spelled : (x : Expr) (l : ExprLayer) → x ≡ roll-Expr l → AllByRecursion Puts (expr_parts l) → (rest : List Piece) → tokens ((expr x).line rest) ≡ spelled (expr_items l) (tokens rest)
 expr_spelled x (Expr-F.Assign target op value) e each rest =
     same_tokens rest (ap expr (e ∙ expression.rolls-Assign target op value) ∙ at-Assign target op value)
     ∙ each.0 (one op EQUALS ((expr value).line rest)) ∙ ap (λ us. tokens_in (APattern target) ++ op ∷ us) (each.1.0 rest)
@@ -87,19 +87,19 @@ expr_spelled x (Expr-F.«Expr::Fun» f) e each rest =
 expr_spelled x (Expr-F.Literal t) e each rest = same_tokens rest (ap expr (e ∙ expression.rolls-Literal t) ∙ at-Literal t)
 expr_spelled x (Expr-F.«Expr::Name» t) e each rest = same_tokens rest (ap expr (e ∙ expression.rolls-Name t) ∙ at-Name t)
 
-function_spelled : (x : Function) (l : FunctionLayer) → x ≡ roll-Function l → AllByRecursion Puts (whole.in_function (seen_function as_nodes l)) → (rest : List Piece) → tokens ((function x).line rest) ≡ spelled (in_function l) (tokens rest)
+function_spelled : (x : Function) (l : FunctionLayer) → x ≡ roll-Function l → AllByRecursion Puts (whole.in_function (seen_function as_nodes l)) → (rest : List Piece) → tokens ((function x).line rest) ≡ spelled (function_items l) (tokens rest)
 function_spelled x (Function-F.Keyword word name params body) e each rest =
     let end = one body.end RIGHT_BRACE rest in
     let inner = body_spelled body.body each end (AToken body.end ∷ []) (tokens rest) refl in
     same_tokens rest (ap function (e ∙ made.rolls-Keyword word name params body) ∙ at-Keyword word name params body)
-    ∙ ap (λ us. word ∷ us) (maybe_spelled name NAME (params_line params (one body.begin LEFT_BRACE (stmts body.body end))) (AToken params.«open» ∷ AToken params.close ∷ AToken body.begin ∷ (body_line body.body ++ AToken body.end ∷ [])) (tokens rest)
+    ∙ ap (λ us. word ∷ us) (maybe_spelled name NAME (params_line params (one body.begin LEFT_BRACE (stmts body.body end))) (AToken params.«open» ∷ AToken params.close ∷ AToken body.begin ∷ (body_items body.body ++ AToken body.end ∷ [])) (tokens rest)
     (ap (λ us. params.«open» ∷ params.close ∷ body.begin ∷ us) inner))
 
-pattern_spelled : (x : Pattern) (l : PatternLayer) → x ≡ roll-Pattern l → AllByRecursion Puts (whole.in_pattern (seen_pattern as_nodes l)) → (rest : List Piece) → tokens ((pattern x).line rest) ≡ spelled (in_pattern l) (tokens rest)
+pattern_spelled : (x : Pattern) (l : PatternLayer) → x ≡ roll-Pattern l → AllByRecursion Puts (whole.in_pattern (seen_pattern as_nodes l)) → (rest : List Piece) → tokens ((pattern x).line rest) ≡ spelled (pattern_items l) (tokens rest)
 pattern_spelled x (Pattern-F.«Pattern::Name» t) e each rest = same_tokens rest (ap pattern (e ∙ bound.rolls-Name t) ∙ at-Target t)
 pattern_spelled x (Pattern-F.Member chain) e each rest = same_tokens rest (ap pattern (e ∙ bound.rolls-Member chain) ∙ at-Member chain) ∙ each.0 rest
 
-stmt_spelled : (x : Stmt) (l : StmtLayer) → x ≡ roll-Stmt l → AllByRecursion Puts (whole.in_stmt (seen_stmt as_nodes l)) → (rest : List Piece) → tokens ((stmt x).line rest) ≡ spelled (in_stmt l) (tokens rest)
+stmt_spelled : (x : Stmt) (l : StmtLayer) → x ≡ roll-Stmt l → AllByRecursion Puts (whole.in_stmt (seen_stmt as_nodes l)) → (rest : List Piece) → tokens ((stmt x).line rest) ≡ spelled (stmt_items l) (tokens rest)
 stmt_spelled x (Stmt-F.«Stmt::Fun» f) e each rest = same_tokens rest (ap stmt (e ∙ statement.rolls-Fun f) ∙ at-Fun f) ∙ each.0 rest
 stmt_spelled x (Stmt-F.Plain value semi) e each rest =
     same_tokens rest (ap stmt (e ∙ statement.rolls-Plain value semi) ∙ at-Plain value semi)
@@ -109,11 +109,11 @@ stmt_spelled x (Stmt-F.Vars word decls semi) e each rest =
     ∙ ap (λ us. word ∷ us) (listed_spelled ASlot slot (λ _. refl) decls (subst (AllByRecursion Puts) (items_seen ASlot decls) each) (maybe semi SEMICOLON rest) (possible semi) (tokens rest) (last_spelled semi SEMICOLON rest))
 
 slot_spelled : (target : Pattern) (init : Option (Init Expr)) → AllByRecursion Puts (whole.in_slot (seen_slot as_nodes (record { target = target; init = init }))) → (rest : List Piece)
-    → tokens ((pattern target).line (init_line expr init rest)) ≡ spelled (in_slot (record { target = target; init = init })) (tokens rest)
+    → tokens ((pattern target).line (init_line expr init rest)) ≡ spelled (slot_items (record { target = target; init = init })) (tokens rest)
 slot_spelled target None each rest = each.0 rest
 slot_spelled target (Some init) each rest = each.0 (one init.equals EQUALS ((expr init.value).line rest)) ∙ ap (λ us. tokens_in (APattern target) ++ init.equals ∷ us) (each.1.0 rest)
 
-tail_spelled : (head : Expr) (before : List (Tail Expr)) (t : Tail Expr) → AllByRecursion Puts (parts (ATail head before t)) → (rest : List Piece) → tokens (tail_line expr t rest) ≡ spelled (in_tail t) (tokens rest)
+tail_spelled : (head : Expr) (before : List (Tail Expr)) (t : Tail Expr) → AllByRecursion Puts (parts (ATail head before t)) → (rest : List Piece) → tokens (tail_line expr t rest) ≡ spelled (tail_items t) (tokens rest)
 tail_spelled head before (tail.Member dot name) each rest = refl
 tail_spelled head before (tail.Call a) each rest =
     ap (λ us. a.«open» ∷ us) (listed_spelled AnExpr expr (λ _. refl) a.items each (one a.close RIGHT_PAREN rest) (AToken a.close ∷ []) (tokens rest) refl)
@@ -126,7 +126,7 @@ node_spelled (APattern x) each rest = pattern_spelled x (out-Pattern x) (sym (ro
 node_spelled (AStmt x) each rest = stmt_spelled x (out-Stmt x) (sym (roll-out-Stmt x)) each rest
 node_spelled (ASlot x) each rest = same_tokens rest (at-Slot x) ∙ slot_spelled (out-Slot x).target (out-Slot x).init each rest
 node_spelled (ATail head before t) each rest = tail_spelled head before t each rest
-node_spelled (ABody body) each rest = body_spelled body each rest [] (tokens rest) refl ∙ ap (λ qs. spelled qs (tokens rest)) (append-nil (body_line body))
+node_spelled (ABody body) each rest = body_spelled body each rest [] (tokens rest) refl ∙ ap (λ qs. spelled qs (tokens rest)) (append-nil (body_items body))
 
 line_tokens : (n : Node) → AllByRecursion Puts (parts n) → tokens_in n ≡ flat_map tokens_at (line_of n)
 unfolding tokens_in
@@ -163,7 +163,7 @@ nodes-map : (ns : List Node) → nodes_in (map ANode ns) ≡ ns
 nodes-map [] = refl
 nodes-map (n ∷ ns) = ap (λ ms. n ∷ ms) (nodes-map ns)
 
-nodes-body : (xs : List Stmt) (ps : List LineItem) → nodes_in (body_line xs ++ ps) ≡ map AStmt xs ++ nodes_in ps
+nodes-body : (xs : List Stmt) (ps : List LineItem) → nodes_in (body_items xs ++ ps) ≡ map AStmt xs ++ nodes_in ps
 nodes-body [] ps = refl
 nodes-body (x ∷ xs) ps = ap (λ ms. AStmt x ∷ ms) (nodes-body xs ps)
 
@@ -173,30 +173,30 @@ nodes-listed node (x ∷ xs) ps e =
     ap (λ ms. node x.item ∷ ms)
     (ap nodes_in (append_assoc (possible x.comma) (listed node xs) ps) ∙ nodes-possible x.comma (listed node xs ++ ps) ∙ nodes-listed node xs ps e)
 
-expr_nodes : (l : ExprLayer) → nodes_in (in_expr l) ≡ expr_parts l
+expr_nodes : (l : ExprLayer) → nodes_in (expr_items l) ≡ expr_parts l
 expr_nodes (Expr-F.Chain head tails) = ap (λ ms. AnExpr head ∷ ms) (nodes-map (tails_behind head [] tails))
 expr_nodes (Expr-F.Assign target op value) = refl
 expr_nodes (Expr-F.«Expr::Fun» f) = refl
 expr_nodes (Expr-F.Literal t) = refl
 expr_nodes (Expr-F.«Expr::Name» t) = refl
 
-function_nodes : (l : FunctionLayer) → nodes_in (in_function l) ≡ whole.in_function (seen_function as_nodes l)
-function_nodes (Function-F.Keyword word name params body) = nodes-possible name (AToken params.«open» ∷ AToken params.close ∷ AToken body.begin ∷ (body_line body.body ++ AToken body.end ∷ [])) ∙ nodes-body body.body (AToken body.end ∷ []) ∙ append-nil (map AStmt body.body)
+function_nodes : (l : FunctionLayer) → nodes_in (function_items l) ≡ whole.in_function (seen_function as_nodes l)
+function_nodes (Function-F.Keyword word name params body) = nodes-possible name (AToken params.«open» ∷ AToken params.close ∷ AToken body.begin ∷ (body_items body.body ++ AToken body.end ∷ [])) ∙ nodes-body body.body (AToken body.end ∷ []) ∙ append-nil (map AStmt body.body)
 
-pattern_nodes : (l : PatternLayer) → nodes_in (in_pattern l) ≡ whole.in_pattern (seen_pattern as_nodes l)
+pattern_nodes : (l : PatternLayer) → nodes_in (pattern_items l) ≡ whole.in_pattern (seen_pattern as_nodes l)
 pattern_nodes (Pattern-F.«Pattern::Name» t) = refl
 pattern_nodes (Pattern-F.Member chain) = refl
 
-stmt_nodes : (l : StmtLayer) → nodes_in (in_stmt l) ≡ whole.in_stmt (seen_stmt as_nodes l)
+stmt_nodes : (l : StmtLayer) → nodes_in (stmt_items l) ≡ whole.in_stmt (seen_stmt as_nodes l)
 stmt_nodes (Stmt-F.«Stmt::Fun» f) = refl
 stmt_nodes (Stmt-F.Plain value semi) = ap (λ ms. AnExpr value ∷ ms) (nodes-last semi)
 stmt_nodes (Stmt-F.Vars word decls semi) = nodes-listed ASlot decls (possible semi) (nodes-last semi) ∙ sym (items_seen ASlot decls)
 
-slot_nodes : (target : Pattern) (init : Option (Init Expr)) → nodes_in (in_slot (record { target = target; init = init })) ≡ whole.in_slot (seen_slot as_nodes (record { target = target; init = init }))
+slot_nodes : (target : Pattern) (init : Option (Init Expr)) → nodes_in (slot_items (record { target = target; init = init })) ≡ whole.in_slot (seen_slot as_nodes (record { target = target; init = init }))
 slot_nodes target None = refl
 slot_nodes target (Some init) = refl
 
-tail_nodes : (t : Tail Expr) → nodes_in (in_tail t) ≡ map AnExpr (whole.tail_parts t)
+tail_nodes : (t : Tail Expr) → nodes_in (tail_items t) ≡ map AnExpr (whole.tail_parts t)
 tail_nodes (tail.Member dot name) = refl
 tail_nodes (tail.Call a) = nodes-listed AnExpr a.items (AToken a.close ∷ []) refl
 
@@ -208,7 +208,7 @@ line_nodes (APattern x) = pattern_nodes (out-Pattern x)
 line_nodes (AStmt x) = stmt_nodes (out-Stmt x)
 line_nodes (ASlot x) = slot_nodes (out-Slot x).target (out-Slot x).init
 line_nodes (ATail head before t) = tail_nodes t
-line_nodes (ABody body) = ap nodes_in (sym (append-nil (body_line body))) ∙ nodes-body body [] ∙ append-nil (map AStmt body)
+line_nodes (ABody body) = ap nodes_in (sym (append-nil (body_items body))) ∙ nodes-body body [] ∙ append-nil (map AStmt body)
 
 work_is : (ps : List LineItem) → sum_by work_for ps ≡ length (flat_map tokens_at ps) + sum_by count (nodes_in ps)
 work_is [] = refl

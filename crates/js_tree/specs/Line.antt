@@ -42,52 +42,52 @@ abbrev pub listed : {E : Type 0} → (E → Node) → List (Listed E) → List L
 listed node = flat_map (with_comma node)
 
 -- statements
-abbrev pub body_line : List Stmt → List LineItem
-body_line = map (λ x. ANode (AStmt x))
+abbrev pub body_items : List Stmt → List LineItem
+body_items = map (λ x. ANode (AStmt x))
 
 -- what a slot is given
-abbrev pub given_line : Option (Init Expr) → List LineItem
-given_line None = []
-given_line (Some init) = AToken init.equals ∷ ANode (AnExpr init.value) ∷ []
+abbrev pub init_items : Option (Init Expr) → List LineItem
+init_items None = []
+init_items (Some init) = AToken init.equals ∷ ANode (AnExpr init.value) ∷ []
 
 -- LINES, one for each kind of node
 
-abbrev pub in_expr : ExprLayer → List LineItem
-in_expr (Expr-F.Assign target op value) = ANode (APattern target) ∷ AToken op ∷ ANode (AnExpr value) ∷ []
-in_expr (Expr-F.Chain head tails) = ANode (AnExpr head) ∷ map ANode (tails_behind head [] tails)
-in_expr (Expr-F.«Expr::Fun» function) = ANode (AFunction function) ∷ []
-in_expr (Expr-F.Literal t) = AToken t ∷ []
-in_expr (Expr-F.«Expr::Name» t) = AToken t ∷ []
+abbrev pub expr_items : ExprLayer → List LineItem
+expr_items (Expr-F.Assign target op value) = ANode (APattern target) ∷ AToken op ∷ ANode (AnExpr value) ∷ []
+expr_items (Expr-F.Chain head tails) = ANode (AnExpr head) ∷ map ANode (tails_behind head [] tails)
+expr_items (Expr-F.«Expr::Fun» function) = ANode (AFunction function) ∷ []
+expr_items (Expr-F.Literal t) = AToken t ∷ []
+expr_items (Expr-F.«Expr::Name» t) = AToken t ∷ []
 
-abbrev pub in_function : FunctionLayer → List LineItem
-in_function (Function-F.Keyword word name params body) =
-    AToken word ∷ (possible name ++ (AToken params.«open» ∷ AToken params.close ∷ AToken body.begin ∷ (body_line body.body ++ AToken body.end ∷ [])))
+abbrev pub function_items : FunctionLayer → List LineItem
+function_items (Function-F.Keyword word name params body) =
+    AToken word ∷ (possible name ++ (AToken params.«open» ∷ AToken params.close ∷ AToken body.begin ∷ (body_items body.body ++ AToken body.end ∷ [])))
 
-abbrev pub in_pattern : PatternLayer → List LineItem
-in_pattern (Pattern-F.«Pattern::Name» t) = AToken t ∷ []
-in_pattern (Pattern-F.Member chain) = ANode (AnExpr chain) ∷ []
+abbrev pub pattern_items : PatternLayer → List LineItem
+pattern_items (Pattern-F.«Pattern::Name» t) = AToken t ∷ []
+pattern_items (Pattern-F.Member chain) = ANode (AnExpr chain) ∷ []
 
-abbrev pub in_stmt : StmtLayer → List LineItem
-in_stmt (Stmt-F.«Stmt::Fun» function) = ANode (AFunction function) ∷ []
-in_stmt (Stmt-F.Plain value semi) = ANode (AnExpr value) ∷ possible semi
-in_stmt (Stmt-F.Vars word decls semi) = AToken word ∷ (listed ASlot decls ++ possible semi)
+abbrev pub stmt_items : StmtLayer → List LineItem
+stmt_items (Stmt-F.«Stmt::Fun» function) = ANode (AFunction function) ∷ []
+stmt_items (Stmt-F.Plain value semi) = ANode (AnExpr value) ∷ possible semi
+stmt_items (Stmt-F.Vars word decls semi) = AToken word ∷ (listed ASlot decls ++ possible semi)
 
-abbrev pub in_slot : SlotLayer → List LineItem
-in_slot slot = ANode (APattern slot.target) ∷ given_line slot.init
+abbrev pub slot_items : SlotLayer → List LineItem
+slot_items slot = ANode (APattern slot.target) ∷ init_items slot.init
 
-abbrev pub in_tail : Tail Expr → List LineItem
-in_tail (tail.Member dot name) = AToken dot ∷ AToken name ∷ []
-in_tail (tail.Call a) = AToken a.«open» ∷ (listed AnExpr a.items ++ AToken a.close ∷ [])
+abbrev pub tail_items : Tail Expr → List LineItem
+tail_items (tail.Member dot name) = AToken dot ∷ AToken name ∷ []
+tail_items (tail.Call a) = AToken a.«open» ∷ (listed AnExpr a.items ++ AToken a.close ∷ [])
 
 -- the line of a node
 abbrev pub line_of : Node → List LineItem
-line_of (AnExpr x) = in_expr (out-Expr x)
-line_of (AFunction x) = in_function (out-Function x)
-line_of (APattern x) = in_pattern (out-Pattern x)
-line_of (AStmt x) = in_stmt (out-Stmt x)
-line_of (ASlot x) = in_slot (out-Slot x)
-line_of (ATail head before t) = in_tail t
-line_of (ABody body) = body_line body
+line_of (AnExpr x) = expr_items (out-Expr x)
+line_of (AFunction x) = function_items (out-Function x)
+line_of (APattern x) = pattern_items (out-Pattern x)
+line_of (AStmt x) = stmt_items (out-Stmt x)
+line_of (ASlot x) = slot_items (out-Slot x)
+line_of (ATail head before t) = tail_items t
+line_of (ABody body) = body_items body
 
 -- the spelling of a node
 abbrev pub spelling_of : Node → Onto

@@ -6,7 +6,7 @@ ghost use Rattle.js_tree.specs.declared.tree.Pattern.{out-Pattern};
 ghost use Rattle.js_tree.specs.declared.tree.Stmt.{out-Stmt};
 ghost use Rattle.js_tree.specs.declared.tree.Slot.{out-Slot};
 ghost use Rattle.js_tree.specs.Parts.{AnExpr, ASlot, node_of, tails_behind};
-ghost use Rattle.js_tree.specs.Line.{AToken, ANode, item_of, possible, listed, body_line, in_expr, in_function, in_pattern, in_stmt, in_slot, in_tail, line_of, given_line};
+ghost use Rattle.js_tree.specs.Line.{AToken, ANode, item_of, possible, listed, body_items, expr_items, function_items, pattern_items, stmt_items, slot_items, tail_items, line_of, init_items};
 
 use crate::node::Node;
 use crate::token::Token;
@@ -45,7 +45,7 @@ pub fn push_line<'t>(node: Node<'t>, out: &mut Vec<LineItem<'t>>) -> Result<(), 
 }
 
 fn push_expr<'t>(value: &'t Expr, out: &mut Vec<LineItem<'t>>) -> Result<(), OutOfMemory>
-    ensures { OnOk result (map item_of out.new.items ≡ map item_of out.old.items ++ in_expr (out-Expr value.now)) }
+    ensures { OnOk result (map item_of out.new.items ≡ map item_of out.old.items ++ expr_items (out-Expr value.now)) }
 {
     match value {
         Expr::Assign { target, op, value } => {
@@ -64,7 +64,7 @@ fn push_expr<'t>(value: &'t Expr, out: &mut Vec<LineItem<'t>>) -> Result<(), Out
 }
 
 fn push_function<'t>(function: &'t Function, out: &mut Vec<LineItem<'t>>) -> Result<(), OutOfMemory>
-    ensures { OnOk result (map item_of out.new.items ≡ map item_of out.old.items ++ in_function (out-Function function.now)) }
+    ensures { OnOk result (map item_of out.new.items ≡ map item_of out.old.items ++ function_items (out-Function function.now)) }
 {
     match function {
         Function::Keyword {
@@ -89,7 +89,7 @@ fn push_params<'t>(params: &'t Params, out: &mut Vec<LineItem<'t>>) -> Result<()
 }
 
 fn push_block<'t>(block: &'t Block<Stmt>, out: &mut Vec<LineItem<'t>>) -> Result<(), OutOfMemory>
-    ensures { OnOk result (map item_of out.new.items ≡ map item_of out.old.items ++ AToken block.now.begin ∷ body_line block.now.body ++ AToken block.now.end ∷ []) }
+    ensures { OnOk result (map item_of out.new.items ≡ map item_of out.old.items ++ AToken block.now.begin ∷ body_items block.now.body ++ AToken block.now.end ∷ []) }
 {
     push_token(&block.begin, out)?;
     push_body(block.body.as_slice(), out)?;
@@ -97,7 +97,7 @@ fn push_block<'t>(block: &'t Block<Stmt>, out: &mut Vec<LineItem<'t>>) -> Result
 }
 
 fn push_pattern<'t>(pattern: &'t Pattern, out: &mut Vec<LineItem<'t>>) -> Result<(), OutOfMemory>
-    ensures { OnOk result (map item_of out.new.items ≡ map item_of out.old.items ++ in_pattern (out-Pattern pattern.now)) }
+    ensures { OnOk result (map item_of out.new.items ≡ map item_of out.old.items ++ pattern_items (out-Pattern pattern.now)) }
 {
     match pattern {
         Pattern::Name(token) => push_token(token, out),
@@ -106,7 +106,7 @@ fn push_pattern<'t>(pattern: &'t Pattern, out: &mut Vec<LineItem<'t>>) -> Result
 }
 
 fn push_stmt<'t>(statement: &'t Stmt, out: &mut Vec<LineItem<'t>>) -> Result<(), OutOfMemory>
-    ensures { OnOk result (map item_of out.new.items ≡ map item_of out.old.items ++ in_stmt (out-Stmt statement.now)) }
+    ensures { OnOk result (map item_of out.new.items ≡ map item_of out.old.items ++ stmt_items (out-Stmt statement.now)) }
 {
     match statement {
         Stmt::Fun { function } => push_node(Node::Function(function.get()), out),
@@ -123,7 +123,7 @@ fn push_stmt<'t>(statement: &'t Stmt, out: &mut Vec<LineItem<'t>>) -> Result<(),
 }
 
 fn push_slot<'t>(slot: &'t Slot, out: &mut Vec<LineItem<'t>>) -> Result<(), OutOfMemory>
-    ensures { OnOk result (map item_of out.new.items ≡ map item_of out.old.items ++ in_slot (out-Slot slot.now)) }
+    ensures { OnOk result (map item_of out.new.items ≡ map item_of out.old.items ++ slot_items (out-Slot slot.now)) }
 {
     push_node(Node::Pattern(&slot.target), out)?;
     push_given(&slot.init, out)
@@ -134,7 +134,7 @@ fn push_given<'t>(
     init: &'t Option<Init<Boxed<Expr>>>,
     out: &mut Vec<LineItem<'t>>,
 ) -> Result<(), OutOfMemory>
-    ensures { OnOk result (map item_of out.new.items ≡ map item_of out.old.items ++ given_line init.now) }
+    ensures { OnOk result (map item_of out.new.items ≡ map item_of out.old.items ++ init_items init.now) }
 {
     match init {
         None => Ok(()),
@@ -149,7 +149,7 @@ fn push_tail<'t>(
     tail: &'t Tail<Boxed<Expr>>,
     out: &mut Vec<LineItem<'t>>,
 ) -> Result<(), OutOfMemory>
-    ensures { OnOk result (map item_of out.new.items ≡ map item_of out.old.items ++ in_tail tail.now) }
+    ensures { OnOk result (map item_of out.new.items ≡ map item_of out.old.items ++ tail_items tail.now) }
 {
     match tail {
         Tail::Member { dot, name } => {
@@ -200,7 +200,7 @@ fn push_node<'t>(node: Node<'t>, out: &mut Vec<LineItem<'t>>) -> Result<(), OutO
 
 // Adds statements.
 fn push_body<'t>(body: &'t [Stmt], out: &mut Vec<LineItem<'t>>) -> Result<(), OutOfMemory>
-    ensures { OnOk result (map item_of out.new.items ≡ map item_of out.old.items ++ body_line body.now) }
+    ensures { OnOk result (map item_of out.new.items ≡ map item_of out.old.items ++ body_items body.now) }
 {
     for statement in body {
         push_node(Node::Stmt(statement), out)?;

@@ -42,7 +42,7 @@ fn write_next<'t>(
 {
     match next {
         LineItem::Token(token) => {
-            out.push(copied(alloc, token)?)?;
+            out.push(copy_of(alloc, token)?)?;
             Ok(())
         }
         LineItem::Node(node) => {
@@ -53,7 +53,7 @@ fn write_next<'t>(
 }
 
 // A token equal to this one.
-fn copied(alloc: Global, token: &Token) -> Result<Token, OutOfMemory>
+fn copy_of(alloc: Global, token: &Token) -> Result<Token, OutOfMemory>
     ensures { IfOk result (λ copy. copy ≡ token.now) }
 {
     Ok(Token {

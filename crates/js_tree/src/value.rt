@@ -10,8 +10,8 @@ use crate::token::Token;
 use jam_base::{OutOfMemory, Text};
 use std::alloc::Global;
 
-/// The value of a string token (ECMA-262, 11.8.4). `None` comes where a surrogate in it has no partner, so that it is no
-/// text, and where `\` stands before 1 to 9 or `\0` before a digit.
+/// The value of a string token (ECMA-262, 11.8.4). `None` comes where a surrogate in it has no
+/// partner, so that it is no text, and where `\` stands before 1 to 9 or `\0` before a digit.
 pub fn string_value(alloc: Global, token: &Token) -> Result<Option<Text>, OutOfMemory>
     ensures { IfOk result (λ value. value ≡ value_of token.now.text) }
 {
