@@ -1,13 +1,13 @@
 -- The list of the reachable functions, by their numbers, and all that is made.
 use Rattle.std.proofs.Common.{◌≡◌, ℕ, zero, suc, ◌+◌, ◌-◌, ◌<◌, ◌≤◌, ◌⊎◌, inl, inr, Bool, true, false, cond, List, [], ◌∷◌, length, map, slice_index, nat_lt, sum, refl, sym, ◌∙◌, ap, subst, arith, lt-ltb, ltb-true}
-use Rattle.std.specs.Prelude.{All, Contains, ◌↔◌}
+use Rattle.std.specs.Prelude.{All, Contains}
 use Rattle.std.specs.List.{count_by, AllByRecursion}
 use Rattle.std.specs.List.Sorted.{IsStrictlySortedBy}
 use Rattle.std.specs.declared.cmp.Ordering.{Ordering}
-use Rattle.std.specs.declared.cmp.Ordering.TheVariants.{Less, Equal, Greater}
+use Rattle.std.specs.declared.cmp.Ordering.TheVariants.{Less, Equal}
 use Rattle.std.specs.Cmp.{nat_cmp_is}
 use Rattle.std.specs.Ordering.{nat_cmp, ordering_then}
-use Rattle.std.proofs.lemmas.Bool.{cases_Bool, cases_order}
+use Rattle.std.proofs.lemmas.Bool.{cases_order}
 use Rattle.std.proofs.lemmas.List.{length-map}
 use Rattle.std.proofs.lemmas.List.Sums.{sum_by-cons}
 use Rattle.jam_base.specs.declared.edge.Edge.{Edge}
@@ -17,7 +17,7 @@ use Rattle.reach_path.specs.declared.lasts.Last.{Last}
 use Rattle.reach_path.specs.Lasts.{AreLasts}
 use Rattle.reach_path.specs.Levels.{IsBetween, IsFunction, IsReachable, body_of}
 use Rattle.reach_path.specs.Numbers.{function_at, number_of, starts_from}
-use Rattle.reach_path.specs.Reached.{AreReachable, IsKept, IsReachOf, Reached, count_of, function_order}
+use Rattle.reach_path.specs.Reached.{AreReachable, IsKept, IsReachOf, Reached, function_order}
 use Rattle.reach_path.specs.Search.{AreLevels}
 use Rattle.reach_path.proofs.NumberLemmas.{AreStarts-from, function_at-number, number_below, starts_rise, starts_within, length-starts_from}
 use Rattle.reach_path.proofs.RouteLemmas.{function_of_steps, has_level, is_level, none_found, numbers, path_found, walked}

@@ -1,8 +1,8 @@
 -- Numbers of functions, and the functions of numbers.
-use Rattle.std.proofs.Common.{◌≡◌, ℕ, zero, suc, ◌+◌, ◌-◌, ◌<◌, ◌≤◌, ◌⊎◌, inl, inr, Bool, true, false, ◌&&◌, cond, List, [], ◌∷◌, length, get_or, slice_index, nat_le, nat_lt, sum, refl, sym, ◌∙◌, ap, subst, arith, le-leb, lt-ltb, ltb-true, leb-true}
+use Rattle.std.proofs.Common.{◌≡◌, ℕ, zero, suc, ◌+◌, ◌-◌, ◌<◌, ◌≤◌, inl, inr, Bool, true, false, cond, List, [], ◌∷◌, length, get_or, slice_index, nat_le, nat_lt, sum, refl, sym, ◌∙◌, ap, arith, le-leb, lt-ltb, ltb-true, leb-true}
 use Rattle.std.specs.List.{count_by}
 use Rattle.std.specs.List.Sorted.{IsNonDecreasing, IsPartitionPoint}
-use Rattle.std.proofs.lemmas.Bool.{and_from, and_parts, cases_lt, cases_order, false_from_ne_true}
+use Rattle.std.proofs.lemmas.Bool.{and_from, and_parts, cases_lt, false_from_ne_true}
 use Rattle.std.proofs.lemmas.List.{get_or_default, get_or_past}
 use Rattle.std.proofs.lemmas.List.Sums.{sum_by-cons}
 use Rattle.jam_base.specs.declared.edge.FunctionRef.{FunctionRef}

@@ -1,14 +1,13 @@
 -- What the search and the last edges say of functions, levels and paths.
-use Rattle.std.proofs.Common.{◌≡◌, ◌≢◌, ℕ, zero, suc, ◌+◌, ◌-◌, ◌<◌, ◌≤◌, ◌⊎◌, inl, inr, Bool, true, false, cond, List, [], ◌∷◌, ◌++◌, length, map, get_or, slice_index, nat_lt, nat_eq, sum, reverse, append_assoc, append-nil, Option, Some, None, refl, sym, ◌∙◌, ap, subst, arith, lt-ltb, ltb-true, eq-eqb, eqb-true}
-use Rattle.std.specs.Prelude.{All, Contains, ◌↔◌}
-use Rattle.std.specs.List.{count_by, AllByRecursion}
+use Rattle.std.proofs.Common.{◌≡◌, ◌≢◌, ℕ, zero, suc, ◌+◌, ◌-◌, ◌<◌, ◌≤◌, inl, inr, true, List, [], ◌∷◌, ◌++◌, length, slice_index, nat_lt, nat_eq, sum, reverse, append_assoc, append-nil, Some, None, refl, sym, ◌∙◌, ap, subst, arith, lt-ltb, eq-eqb, eqb-true}
+use Rattle.std.specs.Prelude.{All, Contains}
 use Rattle.std.specs.List.Sorted.{IsStrictlySortedBy}
 use Rattle.std.specs.declared.cmp.Ordering.{Ordering}
 use Rattle.std.specs.declared.cmp.Ordering.TheVariants.{Less, Equal, Greater}
 use Rattle.std.specs.Cmp.{nat_cmp_is}
 use Rattle.std.specs.Ordering.{nat_cmp, ordering_then}
-use Rattle.std.proofs.lemmas.Bool.{and_from, and_parts, cases_Bool, cases_lt, cases_order, cond-true, cond-false}
-use Rattle.std.proofs.lemmas.List.{get_or_default, get_or_past, length-reverse, reverse-reverse, length-map}
+use Rattle.std.proofs.lemmas.Bool.{and_from, and_parts, cases_Bool, cases_order, cond-true, cond-false}
+use Rattle.std.proofs.lemmas.List.{get_or_default, length-reverse, reverse-reverse}
 use Rattle.std.proofs.lemmas.List.Elements.{All-contains, All-get_or, Contains-get_or}
 use Rattle.std.proofs.lemmas.Map.Keys.{Less-from_sorted}
 use Rattle.jam_base.specs.declared.edge.Edge.{Edge}
@@ -16,7 +15,7 @@ use Rattle.jam_base.specs.declared.edge.FunctionRef.{FunctionRef}
 use Rattle.jam_base.specs.Edges.{edge_order}
 use Rattle.reach_path.specs.declared.lasts.Last.{Last}
 use Rattle.reach_path.specs.Graphs.{Numbered, IsNumbered, HasSteps, edge_at, from, no_edge, to}
-use Rattle.reach_path.specs.Lasts.{AreLasts, IsFirst, last_at, last_of, leads_on}
+use Rattle.reach_path.specs.Lasts.{AreLasts, IsFirst, last_of, leads_on}
 use Rattle.reach_path.specs.Levels.{HasWalk, IsBetween, IsFunction, IsLastEdge, IsLevel, IsPath, IsReachable, IsWayBack, body_of, path_order}
 use Rattle.reach_path.specs.Numbers.{function_at, is_numbered, number_of, starts_from}
 use Rattle.reach_path.specs.Reached.{Reached, edge_into, path_at, path_to, way_back}

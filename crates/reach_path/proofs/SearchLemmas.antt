@@ -1,6 +1,5 @@
 -- Steps of the search, and what it ends with.
-use Rattle.std.proofs.Common.{◌≡◌, ℕ, zero, suc, ◌+◌, ◌-◌, ◌<◌, ◌≤◌, ◌⊎◌, inl, inr, Bool, true, false, cond, List, [], ◌∷◌, ◌++◌, length, replicate, set, slice_index, get_or, nat_eq, refl, sym, ◌∙◌, ap, subst, arith, ne_eqb}
-use Rattle.std.specs.List.{count_by}
+use Rattle.std.proofs.Common.{◌≡◌, ℕ, zero, suc, ◌+◌, ◌<◌, ◌≤◌, inl, inr, cond, List, [], ◌∷◌, ◌++◌, length, replicate, set, slice_index, get_or, nat_eq, refl, sym, ◌∙◌, ap, subst, arith, ne_eqb}
 use Rattle.std.proofs.lemmas.Bool.{cases_eq, cases_lt}
 use Rattle.std.proofs.lemmas.List.{length-replicate, get_or-replicate, get_or_past, length-set, length_push, get_or-set_same, get_or-set_other, get_or_append_left, get_or_push}
 use Rattle.std.proofs.lemmas.List.Sums.{sum_by-set}

@@ -1,5 +1,5 @@
 -- Numbers for the functions of all modules: those of a module go behind those of the modules before it.
-use Rattle.std.specs.Prelude.{ℕ, ◌+◌, ◌-◌, ◌<◌, ◌≤◌, ◌≡◌, Bool, ◌&&◌, List, [], ◌∷◌, length, slice_index, nat_lt, nat_le, All}
+use Rattle.std.specs.Prelude.{ℕ, ◌+◌, ◌-◌, ◌<◌, ◌≤◌, ◌≡◌, Bool, ◌&&◌, List, [], ◌∷◌, length, slice_index, nat_lt, nat_le}
 use Rattle.std.specs.List.{count_by}
 use Rattle.std.specs.List.Sorted.{IsNonDecreasing}
 use Rattle.jam_base.specs.declared.edge.FunctionRef.{FunctionRef}

@@ -1,5 +1,5 @@
 -- What is known of all functions: which of them are reachable, and the path to each.
-use Rattle.std.specs.Prelude.{ℕ, zero, suc, ◌≡◌, ◌<◌, ◌≤◌, ◌↔◌, Bool, cond, List, [], ◌∷◌, length, reverse, slice_index, Option, Some, None, nat_lt, Contains}
+use Rattle.std.specs.Prelude.{ℕ, zero, suc, ◌≡◌, ◌<◌, ◌≤◌, ◌↔◌, cond, List, [], ◌∷◌, length, reverse, slice_index, Option, Some, None, nat_lt, Contains}
 use Rattle.std.specs.List.{count_by}
 use Rattle.std.specs.List.Sorted.{IsStrictlySortedBy}
 use Rattle.std.specs.declared.cmp.Ordering.{Ordering}

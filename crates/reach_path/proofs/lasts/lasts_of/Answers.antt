@@ -1,4 +1,4 @@
-use Rattle.std.proofs.Common.{◌≡◌, ◌+◌, ◌-◌, ◌<◌, length, sym, subst, arith}
+use Rattle.std.proofs.Common.{◌≡◌, ◌+◌, ◌-◌, sym, subst, arith}
 use Rattle.reach_path.specs.Lasts.{AreLasts}
 use Rattle.reach_path.proofs.LastLemmas.{AreLasts-kept}
 use Rattle.reach_path.proofs.lasts.lasts_of.Goals as goal

@@ -1,4 +1,4 @@
-use Rattle.std.proofs.Common.{rules, of_calls, ◌≡◌, ℕ, ◌-◌, ◌≤◌, true, false, nat_le, slice_index, ap, sym, ◌∙◌, inl, inr, arith, leb-true, leb-false}
+use Rattle.std.proofs.Common.{rules, of_calls, ◌≡◌, ℕ, ◌-◌, true, false, nat_le, slice_index, ap, sym, inl, inr, arith, leb-true, leb-false}
 use Rattle.std.proofs.lemmas.Fn.{always_returns_same}
 use Rattle.std.proofs.lemmas.Bool.{cases_lt}
 use Rattle.std.proofs.lemmas.List.Sorted.{IsPartitionedBy-leb}

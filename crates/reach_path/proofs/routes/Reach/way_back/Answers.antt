@@ -1,9 +1,9 @@
-use Rattle.std.proofs.Common.{◌≡◌, ℕ, ◌+◌, ◌-◌, ◌<◌, ◌++◌, ◌∷◌, [], length, sym, ◌∙◌, ap, subst, arith}
+use Rattle.std.proofs.Common.{◌≡◌, ◌<◌, length, sym, ◌∙◌, ap, arith}
 use Rattle.std.proofs.lemmas.List.{get_or_default}
 use Rattle.reach_path.specs.declared.lasts.Last.{Last}
 use Rattle.reach_path.specs.Lasts.{last_of, no_last}
 use Rattle.reach_path.specs.Numbers.{function_at}
-use Rattle.reach_path.specs.Reached.{Reached, way_back}
+use Rattle.reach_path.specs.Reached.{Reached}
 use Rattle.reach_path.proofs.RouteLemmas.{way_back-onward, way_back-end}
 use Rattle.reach_path.proofs.routes.Reach.way_back.Goals as goal
 

@@ -1,9 +1,9 @@
 use Rattle.std.proofs.Common.{◌≡◌, ◌+◌, ◌-◌, ◌<◌, length, slice_index, sym, ◌∙◌, subst, arith}
 use Rattle.std.proofs.lemmas.List.{get_or_default}
-use Rattle.reach_path.specs.Graphs.{from, to}
+use Rattle.reach_path.specs.Graphs.{from}
 use Rattle.reach_path.specs.Chains.{IsLastFrom}
 use Rattle.reach_path.specs.Search.{Offered}
-use Rattle.reach_path.proofs.SearchLemmas.{Following, Following-begun, Following-more, room}
+use Rattle.reach_path.proofs.SearchLemmas.{Following, Following-more, room}
 use Rattle.reach_path.proofs.search.Search.follow.Goals as goal
 
 pub offer-requires-clause-room : goal.offer-requires-clause-room
