@@ -1,2 +1,4 @@
 pub mod Escape
 pub mod Graph
+pub mod Json
+pub mod Reports

@@ -20,7 +20,7 @@ pub fn graph_text(alloc: Global, edges: &List<PathStep>) -> Result<Text, OutOfMe
     Ok(Text::from_string(out))
 }
 
-fn push_step(out: &mut String, step: &PathStep) -> Result<(), AllocError>
+pub(crate) fn push_step(out: &mut String, step: &PathStep) -> Result<(), AllocError>
     ensures { OnOk result (string_bytes out.new ≡ string_bytes out.old ++ step_text step.now) }
 {
     push_place(out, step.path.as_str(), step.line, step.column)?;
@@ -31,7 +31,12 @@ fn push_step(out: &mut String, step: &PathStep) -> Result<(), AllocError>
     push_escaped(out, callee.name.as_str())
 }
 
-fn push_place(out: &mut String, path: &str, line: u32, column: u32) -> Result<(), AllocError>
+pub(crate) fn push_place(
+    out: &mut String,
+    path: &str,
+    line: u32,
+    column: u32,
+) -> Result<(), AllocError>
     ensures { OnOk result (string_bytes out.new ≡ string_bytes out.old ++ place_text path.now line column) }
 {
     push_escaped(out, path)?;

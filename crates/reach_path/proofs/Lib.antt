@@ -1,0 +1,6 @@
+pub mod ChainLemmas
+pub mod CountLemmas
+pub mod SearchLemmas
+pub mod LastLemmas
+pub mod NumberLemmas
+pub mod RouteLemmas

@@ -1,0 +1,7 @@
+use Rattle.std.proofs.Common.{◌≡◌, map, take}
+use Rattle.serde_json.specs.View.{view}
+use Rattle.report_text.specs.Json.{alarm_data}
+use Rattle.report_text.proofs.values.alarm_values.Given as goal
+
+abbrev pub invariant-loop-alarm : goal.invariant-loop-alarm
+invariant-loop-alarm l = map view l.values.items ≡ map alarm_data (take l.alarm-index l.alarms)
