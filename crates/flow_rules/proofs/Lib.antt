@@ -1,3 +1,7 @@
+pub mod CallRules
+pub mod Keeping
+pub mod Lengths
+pub mod Ones
 pub mod Order
 pub mod Places
 pub mod RuleLemmas

@@ -9,7 +9,7 @@ use Rattle.js_tree.specs.declared.tree.Function.{Function}
 use Rattle.js_tree.specs.declared.tree.Pattern.{Pattern}
 use Rattle.js_tree.specs.declared.tree.Tail.{Tail}
 use Rattle.js_tree.specs.Folds.{ExprLayer}
-use Rattle.js_tree.specs.Parts.{AnExpr, AFunction, expr_parts, folded, parts}
+use Rattle.js_tree.specs.Parts.{AnExpr, AFunction, expr_parts, folded}
 use Rattle.js_tree.proofs.PartLemmas.{folded_is}
 use Rattle.js_scopes.specs.Scopes.{start_of}
 use Rattle.flow_rules.specs.declared.vertex.Vertex.{Vertex}

@@ -8,7 +8,7 @@ use Rattle.js_tree.specs.declared.tree.Expr.{Expr, out-Expr}
 use Rattle.js_tree.specs.declared.tree.Expr.TheOpen.{Expr-F, Pattern-F}
 use Rattle.js_tree.specs.declared.tree.Function.{Function, out-Function}
 use Rattle.js_tree.specs.declared.tree.Pattern.{Pattern, out-Pattern}
-use Rattle.js_tree.specs.declared.tree.Slot.{Slot, out-Slot}
+use Rattle.js_tree.specs.declared.tree.Slot.{out-Slot}
 use Rattle.js_tree.specs.declared.tree.Tree.{Tree}
 use Rattle.js_tree.specs.Folds.{ExprLayer, PatternLayer, SlotLayer}
 use Rattle.js_tree.specs.Parts.{Node, AnExpr, AFunction, APattern, ASlot, ATail, ABody, init_parts, gathered}

@@ -1,9 +1,10 @@
 //! The flows of calls.
-ghost use Rattle.std.specs.Prelude.{◌≡◌, ◌+◌, ◌++◌, [], IfOk, OnOk, Some, if◌then◌else◌, codes, map};
+ghost use Rattle.std.specs.Prelude.{◌≡◌, ◌<◌, ◌++◌, [], length, OnOk, Some, if◌then◌else◌, codes, map};
 ghost use Rattle.std.specs.List.{flat_map};
 ghost use Rattle.std.specs.Option.{option_map};
 ghost use Rattle.std.specs.Str.{bytes_eq};
-ghost use Rattle.js_tree.specs.Parts.{items_in};
+ghost use Rattle.js_tree.specs.Parts.{ATail, items_in};
+ghost use Rattle.js_tree.specs.Tokens.{IsInText};
 ghost use Rattle.flow_rules.specs.declared.vertex.Vertex.TheVariants as vertex;
 ghost use Rattle.flow_rules.specs.AtHand.{facts_in};
 ghost use Rattle.flow_rules.specs.Calls as flows;
@@ -27,6 +28,7 @@ pub(crate) fn push_tail_flows(
     tail: &Tail<Boxed<Expr>>,
     out: &mut Vec<Flow>,
 ) -> Result<(), OutOfMemory>
+    requires { IsInText (ATail head.now before.now tail.now) }
     ensures { OnOk result (out.new.items ≡ out.old.items ++ flows.tail_flows (facts_in facts.now) head.now before.now tail.now) }
 {
     match tail {
@@ -49,6 +51,7 @@ fn push_unrequired(
     arguments: &Arguments<Boxed<Expr>>,
     out: &mut Vec<Flow>,
 ) -> Result<(), OutOfMemory>
+    requires { length arguments.now.items < 4294967296 }
     ensures { OnOk result (out.new.items ≡ out.old.items ++ flows.unrequired_flows required (facts_in facts.now) head.now before.now arguments.now.open.start (items_in arguments.now.items)) }
 {
     if required {
@@ -76,6 +79,7 @@ fn push_call(
     values: &[Option<Vertex>],
     out: &mut Vec<Flow>,
 ) -> Result<(), OutOfMemory>
+    requires { length values.now < 4294967296 }
     ensures { OnOk result (out.new.items ≡ out.old.items ++ flows.call_flows (facts_in facts.now) head.now before.now offset values.now) }
 {
     let callee = value_up_to(alloc, facts, head, before)?;
@@ -159,6 +163,7 @@ fn push_arguments(
     values: &[Option<Vertex>],
     out: &mut Vec<Flow>,
 ) -> Result<(), OutOfMemory>
+    requires { length values.now < 4294967296 }
     ensures { OnOk result (out.new.items ≡ out.old.items ++ flows.argument_flows offset part 0 values.now) }
 {
     let mut index: u32 = 0;
@@ -169,19 +174,9 @@ fn push_arguments(
             index,
         };
         push_flow(alloc, value, to, out)?;
-        index = next(index)?;
+        index += 1;
     }
     Ok(())
-}
-
-// The number after it; what 32 bits don't hold is more than memory does.
-fn next(index: u32) -> Result<u32, OutOfMemory>
-    ensures { IfOk result (λ n. n ≡ index + 1) }
-{
-    match index.checked_add(1) {
-        Some(n) => Ok(n),
-        None => Err(OutOfMemory),
-    }
 }
 
 // What a call of a member of this name or none adds to a plain call.
@@ -194,6 +189,7 @@ fn push_called(
     member: Option<&Text>,
     out: &mut Vec<Flow>,
 ) -> Result<(), OutOfMemory>
+    requires { length values.now < 4294967296 }
     ensures { OnOk result (out.new.items ≡ out.old.items ++ flows.called_flows offset number object.now values.now (option_map (λ t. t.now) member.entry)) }
 {
     match member {
@@ -211,6 +207,7 @@ fn push_member(
     name: &str,
     out: &mut Vec<Flow>,
 ) -> Result<(), OutOfMemory>
+    requires { length values.now < 4294967296 }
     ensures { OnOk result (out.new.items ≡ out.old.items ++ flows.member_flows offset number object.now values.now name.now) }
 {
     push_flow(alloc, object, Vertex::Recv { offset, part: 0 }, out)?;
@@ -229,6 +226,7 @@ fn push_reflected(
     name: &str,
     out: &mut Vec<Flow>,
 ) -> Result<(), OutOfMemory>
+    requires { length values.now < 4294967296 }
     ensures { OnOk result (out.new.items ≡ out.old.items ++ flows.reflected_flows offset number object.now values.now name.now) }
 {
     if !is_reflected(name) {
@@ -251,6 +249,7 @@ fn push_passed_on(
     name: &str,
     out: &mut Vec<Flow>,
 ) -> Result<(), OutOfMemory>
+    requires { length values.now < 4294967296 }
     ensures { OnOk result (out.new.items ≡ out.old.items ++ (if bytes_eq name.now (codes "apply") then flows.applied_flows offset values.now else flows.passed_flows offset values.now)) }
 {
     if name == "apply" {
@@ -285,6 +284,7 @@ fn push_passed(
     values: &[Option<Vertex>],
     out: &mut Vec<Flow>,
 ) -> Result<(), OutOfMemory>
+    requires { length values.now < 4294967296 }
     ensures { OnOk result (out.new.items ≡ out.old.items ++ flows.passed_flows offset values.now) }
 {
     match values.split_first() {

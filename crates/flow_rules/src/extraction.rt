@@ -1,5 +1,8 @@
 //! What a tree says of its values.
 ghost use Rattle.std.specs.Prelude.{◌≡◌, ℕ, IfOk, drop};
+ghost use Rattle.js_tree.specs.Parts.{ABody};
+ghost use Rattle.js_tree.specs.Spells.{SpellsSome};
+ghost use Rattle.js_tree.specs.Tokens.{IsInText};
 ghost use Rattle.js_scopes.specs.AtHand.{known_in};
 ghost use Rattle.js_scopes.specs.Meanings.{meaning_in};
 ghost use Rattle.js_scopes.specs.Scopes.{binding_of, functions_of, known_of};
@@ -25,26 +28,24 @@ pub fn constraints(
     tree: &Tree,
     bindings: &Bindings,
 ) -> Result<Constraints, OutOfMemory>
-    requires { (start : ℕ) → meaning_in bindings.now start ≡ binding_of tree.now start }
+    requires spelled { SpellsSome tree.now }
+    requires bound { (start : ℕ) → meaning_in bindings.now start ≡ binding_of tree.now start }
     ensures { IfOk result (λ made. made ≡ seen.constraints_of tree.now) }
 {
     let functions = functions(alloc, tree)?;
     let inner = behind_first(functions.as_slice());
-    if inner.len() >= 4294967295 {
-        return Err(OutOfMemory);
-    }
     let known = Known::of(bindings, inner);
     let sites = sites_with(alloc, tree, &known)?;
     let requires_ = requires_of(alloc, tree, &known)?;
     let notes = notes_of(alloc, tree, &known)?;
     let flows = flows_of(alloc, tree, &known)?;
-    let made = Constraints::of(functions, sites, requires_, notes, flows);
-    match made {
-        Some(made) => Ok(made),
-        // This comes only where a list has 2^32 items, a text 2^32 bytes, or two calls of the tree have
-        // one offset and not as many arguments; a parsed text has one `(` at an offset.
-        None => Err(OutOfMemory),
-    }
+    Ok(Constraints {
+        functions,
+        sites,
+        requires_,
+        notes,
+        flows,
+    })
 }
 
 // The functions but the first.
@@ -59,7 +60,8 @@ fn behind_first(functions: &[FunctionInfo]) -> &[FunctionInfo]
 
 // The requires of a tree of which this is known.
 fn requires_of(alloc: Global, tree: &Tree, known: &Known<'_>) -> Result<List<Require>, OutOfMemory>
-    requires { known_in known.now ≡ known_of tree.now }
+    requires spelled { IsInText (ABody tree.now.body) }
+    requires known { known_in known.now ≡ known_of tree.now }
     ensures { IfOk result (λ made. made ≡ seen.requires_of tree.now) }
 {
     let mut found = Vec::new(alloc);
@@ -71,7 +73,8 @@ fn requires_of(alloc: Global, tree: &Tree, known: &Known<'_>) -> Result<List<Req
 
 // Its notes.
 fn notes_of(alloc: Global, tree: &Tree, known: &Known<'_>) -> Result<List<ModuleNote>, OutOfMemory>
-    requires { known_in known.now ≡ known_of tree.now }
+    requires spelled { IsInText (ABody tree.now.body) }
+    requires known { known_in known.now ≡ known_of tree.now }
     ensures { IfOk result (λ made. made ≡ seen.notes_of tree.now) }
 {
     let mut found = Vec::new(alloc);
@@ -83,7 +86,8 @@ fn notes_of(alloc: Global, tree: &Tree, known: &Known<'_>) -> Result<List<Module
 
 // Its flows.
 fn flows_of(alloc: Global, tree: &Tree, known: &Known<'_>) -> Result<List<Flow>, OutOfMemory>
-    requires { known_in known.now ≡ known_of tree.now }
+    requires spelled { IsInText (ABody tree.now.body) }
+    requires known { known_in known.now ≡ known_of tree.now }
     ensures { IfOk result (λ made. made ≡ seen.flows_of tree.now) }
 {
     let numbers = numbers_of(alloc, tree)?;
@@ -100,6 +104,7 @@ fn flows_of(alloc: Global, tree: &Tree, known: &Known<'_>) -> Result<List<Flow>,
 
 // The numbers of its numbered expressions.
 fn numbers_of(alloc: Global, tree: &Tree) -> Result<Numbers, OutOfMemory>
+    requires { IsInText (ABody tree.now.body) }
     ensures { IfOk result (λ made. (offset : ℕ) → number_in made offset ≡ place_in (numbered_of tree.now) offset) }
 {
     let mut numbered = Vec::new(alloc);

@@ -38,11 +38,10 @@ impl Model for Numbers {
 impl Numbers {
     /// Each offset by its first place in the list.
     pub(crate) fn of(alloc: Global, numbered: Vec<u32>) -> Result<Numbers, OutOfMemory>
+        requires { length numbered.items < 4294967296 }
         ensures { IfOk result (λ made. (offset : ℕ) → number_in made offset ≡ place_in numbered.items offset) }
     {
-        let Ok(count) = u32::try_from(numbered.len()) else {
-            return Err(OutOfMemory);
-        };
+        let count = numbered.len() as u32;
         Ok(Numbers {
             places: places_of(alloc, numbered)?,
             count,

@@ -1,7 +1,8 @@
 -- What holds of each node in a node, and how much is gathered.
-use Rattle.std.proofs.Common.{◌≡◌, ℕ, ◌+◌, ◌*◌, ◌≤◌, List, [], ◌∷◌, ◌++◌, length, length-append, refl, sym, ap, ◌∙◌, subst, arith, Option, Some, None}
-use Rattle.std.specs.List.{AllByRecursion, flat_map, sum_by}
-use Rattle.std.proofs.lemmas.List.Sums.{sum_by-cons}
+use Rattle.std.proofs.Common.{◌≡◌, ℕ, ◌+◌, ◌*◌, ◌≤◌, Bool, cond, List, [], ◌∷◌, ◌++◌, length, length-append, refl, sym, ap, ◌∙◌, subst, arith, Option, Some, None}
+use Rattle.std.specs.List.{AllByRecursion, count_by, flat_map, sum_by}
+use Rattle.std.proofs.lemmas.List.Sums.{sum_by-append, sum_by-cons}
+use Rattle.js_tree.specs.declared.token.Token.{Token}
 use Rattle.js_tree.specs.Parts.{Node, parts, gathered}
 use Rattle.js_tree.specs.Tokens.{own_tokens, tokens_in}
 use Rattle.js_tree.proofs.GatherLemmas.{along_parts, each_back, each_both, each_front}
@@ -87,23 +88,48 @@ module _ {C B : Type 0} (own : Node → C → List B) (inner : Node → C → C)
       everywhere_by Gives n (c, each_front Q (own n c) behind all) (scatter_all (parts n) d s (each_back Q (own n c) behind all)))
 
 -- what the items of each node have, where this holds of it and that of what stands around it, each item has that is gathered
-module _ {C B : Type 0} (own : Node → C → List B) (inside : Node → C → Option C) (P : Node → Type 0) (I : C → Type 0) (Q : B → Type 0)
-    (gives : (n : Node) (c : C) → P n → I c → AllByRecursion Q (own n c)) (keeps : (n : Node) (c d : C) → P n → I c → inside n c ≡ Some d → I d) where
+module _ {C B : Type 0} (own : Node → C → List B) (inner : Node → C → C) (P : Node → Type 0) (I : C → Type 0) (Q : B → Type 0)
+    (gives : (n : Node) (c : C) → P n → I c → AllByRecursion Q (own n c)) (keeps : (n : Node) (c : C) → P n → I c → I (inner n c)) where
+  abbrev within : Node → C → Option C
+  within n c = Some (inner n c)
+
   abbrev Kept : Node → Type 0
-  Kept n = (c : C) → Everywhere P n → I c → AllByRecursion Q (gathered own inside n c)
+  Kept n = (c : C) → Everywhere P n → I c → AllByRecursion Q (gathered own within n c)
 
-  keep_all : (ms : List Node) (c : C) → AllByRecursion Kept ms → AllByRecursion (Everywhere P) ms → I c → AllByRecursion Q (all_gathered own inside ms c)
+  keep_all : (ms : List Node) (c : C) → AllByRecursion Kept ms → AllByRecursion (Everywhere P) ms → I c → AllByRecursion Q (all_gathered own within ms c)
   keep_all [] c k a i = tt
-  keep_all (m ∷ ms) c k a i = each_both Q (gathered own inside m c) (all_gathered own inside ms c) (k.0 c a.0 i) (keep_all ms c k.1 a.1 i)
-
-  keep_by : (n : Node) (c : C) → AllByRecursion Kept (parts n) → Everywhere P n → I c → (o : Option C) → inside n c ≡ o → AllByRecursion Q (gathered own inside n c)
-  keep_by n c k a i None e = subst (AllByRecursion Q) (sym (gathered_passed own inside n c e)) (gives n c (at_node P n a) i)
-  keep_by n c k a i (Some d) e =
-      let p = at_node P n a in
-      subst (AllByRecursion Q) (sym (gathered_is own inside n c d e)) (each_both Q (own n c) (all_gathered own inside (parts n) d) (gives n c p i) (keep_all (parts n) d k (at_parts P n a) (keeps n c d p i e)))
+  keep_all (m ∷ ms) c k a i = each_both Q (gathered own within m c) (all_gathered own within ms c) (k.0 c a.0 i) (keep_all ms c k.1 a.1 i)
 
   pub gathered_keeps : (n : Node) → Kept n
-  gathered_keeps = along_parts Kept (λ n k c a i. keep_by n c k a i (inside n c) refl)
+  gathered_keeps = along_parts Kept (λ n k c a i.
+      let p = at_node P n a in
+      let d = inner n c in
+      subst (AllByRecursion Q) (sym (gathered_is own within n c d refl)) (each_both Q (own n c) (all_gathered own within (parts n) d) (gives n c p i) (keep_all (parts n) d k (at_parts P n a) (keeps n c p i))))
+
+-- where as many items of each node pass as of its tokens, or fewer, so do all that are gathered
+module _ {C B : Type 0} (own : Node → C → List B) (inner : Node → C → C) (p : B → Bool) (q : Token → Bool) (less : (n : Node) (c : C) → count_by p (own n c) ≤ count_by q (own_tokens n)) where
+  abbrev through : Node → C → Option C
+  through n c = Some (inner n c)
+
+  abbrev Counted : Node → Type 0
+  Counted n = (c : C) → count_by p (gathered own through n c) ≤ count_by q (tokens_in n)
+
+  all_counted : (ms : List Node) (c : C) → AllByRecursion Counted ms → count_by p (all_gathered own through ms c) ≤ count_by q (flat_map tokens_in ms)
+  all_counted [] c a = omega arith
+  all_counted (m ∷ ms) c a =
+      let b = a.0 c in
+      let d = all_counted ms c a.1 in
+      let e = sum_by-append (λ x. cond (p x) 1 0) (gathered own through m c) (all_gathered own through ms c) in
+      let f = sum_by-append (λ t. cond (q t) 1 0) (tokens_in m) (flat_map tokens_in ms) in
+      omega (arith, b, d, e, f)
+
+  pub counted : (n : Node) → Counted n
+  counted = along_parts Counted (λ n a c.
+      let b = less n c in
+      let d = all_counted (parts n) (inner n c) a in
+      let e = ap (count_by p) (gathered_is own through n c (inner n c) refl) ∙ sum_by-append (λ x. cond (p x) 1 0) (own n c) (all_gathered own through (parts n) (inner n c)) in
+      let f = ap (count_by q) (tokens_are n) ∙ sum_by-append (λ t. cond (q t) 1 0) (own_tokens n) (flat_map tokens_in (parts n)) in
+      omega (arith, b, d, e, f))
 
 -- where what each node gives is paid for by its tokens and by what its parts have left, so is all that is gathered
 module _ {C B : Type 0} (own : Node → C → List B) (inside : Node → C → Option C) (left : Node → ℕ)

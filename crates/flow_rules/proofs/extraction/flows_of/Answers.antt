@@ -13,7 +13,7 @@ pub returns : goal.returns
 returns c =
     let tree = c.args.tree.now in
     let here : Facts = record { known = known_in c.args.known.now; number = number_in c.in_ok-numbers.numbers } in
-    let same : here ≡ facts_of tree = λ i. record { known = c.requires i; number = λ offset. c.in_ok-numbers.ensures {u = tt} offset i } in
+    let same : here ≡ facts_of tree = λ i. record { known = c.requires.known i; number = λ offset. c.in_ok-numbers.ensures {u = tt} offset i } in
     c.of.ensures ∙ c.in_ok-found.ensures {u = tt} ∙ ap (ascending flow_order) (
     items_from_nothing c.new-found.result.items c.walk_tree.new.out.items _ c.new-found.ensures.items (c.in_ok-walk_tree.ensures {u = tt})
     ∙ (λ i. flows_in (same i) (ABody (c.as_slice.ensures i)) 0))

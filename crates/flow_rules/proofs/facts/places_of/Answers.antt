@@ -1,4 +1,4 @@
-use Rattle.std.proofs.Common.{◌≡◌, ℕ, ◌+◌, ◌<◌, ◌∷◌, ◌++◌, [], List, length, refl, ap, sym, ◌∙◌, arith, ◌==◌, if◌then◌else◌, length-append}
+use Rattle.std.proofs.Common.{◌≡◌, ◌+◌, ◌∷◌, ◌++◌, [], List, length, refl, ap, sym, ◌∙◌, arith, ◌==◌, if◌then◌else◌, length-append}
 use Rattle.flow_rules.specs.Places.{place_or}
 use Rattle.flow_rules.proofs.Places.{place_from, place_last, place_is}
 use Rattle.flow_rules.proofs.facts.places_of.Goals as goal

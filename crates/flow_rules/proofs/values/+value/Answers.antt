@@ -1,6 +1,5 @@
 use Rattle.std.proofs.Common.{Some, ap, sym, ◌∙◌}
 use Rattle.std.proofs.lemmas.Result.{IfOk-weaker}
-use Rattle.js_scopes.specs.AtHand.{known_in}
 use Rattle.js_scopes.specs.Scopes.{start_of}
 use Rattle.js_scopes.proofs.Layers.{is-Assign, is-Chain, is-Fun, is-Name}
 use Rattle.flow_rules.specs.declared.vertex.Vertex.TheVariants as vertex
