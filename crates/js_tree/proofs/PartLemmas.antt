@@ -1,11 +1,11 @@
 -- Each part is lower than its node, and what is made of a node is made from what is made of its parts.
-use Rattle.std.proofs.Common.{◌≡◌, ℕ, zero, suc, ◌+◌, ◌-◌, ◌<◌, ◌≤◌, max, List, [], ◌∷◌, ◌++◌, map, sum, length, take, drop, get_or, refl, sym, ap, ◌∙◌, subst, append-nil, add-one, arith, Option, Some, None}
+use Rattle.std.proofs.Common.{◌≡◌, ℕ, zero, suc, ◌+◌, ◌-◌, ◌<◌, ◌≤◌, max, List, [], ◌∷◌, ◌++◌, map, sum, length, take, drop, get_or, refl, sym, ap, ◌∙◌, append-nil, add-one, arith, Option, Some, None}
 use Rattle.std.specs.List.{flat_map}
 use Rattle.std.proofs.Math.Seq.{drop-cons}
 use Rattle.std.proofs.lemmas.List.{take_more}
 use Rattle.std.proofs.lemmas.List.Folds.{flat_map-map}
 use Rattle.js_tree.specs.declared.tree.Expr.{Expr, out-Expr, fold_out-Expr}
-use Rattle.js_tree.specs.declared.tree.Expr.TheOpen.{Expr-F, Function-F, Pattern-F, Stmt-F, Slot-F}
+use Rattle.js_tree.specs.declared.tree.Expr.TheOpen.{Expr-F, Function-F, Pattern-F, Stmt-F}
 use Rattle.js_tree.specs.declared.tree.Function.{Function, out-Function, fold_out-Function}
 use Rattle.js_tree.specs.declared.tree.Init.{Init}
 use Rattle.js_tree.specs.declared.tree.Listed.{Listed}
@@ -16,9 +16,9 @@ use Rattle.js_tree.specs.declared.tree.Tail.{Tail}
 use Rattle.js_tree.specs.declared.tree.Tail.TheVariants as tail
 use Rattle.js_tree.specs.declared.tree.Stmt.TheVariants as statement
 use Rattle.js_tree.specs.declared.token.Token.{Token}
-use Rattle.js_tree.specs.Folds.{Views, ExprLayer, FunctionLayer, PatternLayer, SlotLayer, StmtLayer, fold_expr, fold_stmt, seen_expr, seen_function, seen_pattern, seen_slot, seen_stmt}
+use Rattle.js_tree.specs.Folds.{Views, ExprLayer, FunctionLayer, PatternLayer, SlotLayer, StmtLayer, seen_expr, seen_function, seen_pattern, seen_slot, seen_stmt}
 use Rattle.js_tree.specs.Spelling.{tallest_of}
-use Rattle.js_tree.specs.Parts.{Node, AnExpr, AFunction, APattern, AStmt, ASlot, ATail, ABody, as_nodes, items_in, init_parts, tail_parts, tails_behind, in_expr, in_function, in_pattern, in_slot, in_stmt, expr_parts, parts, heights, height, height_over, folded_to, folded, count, unless_passed, gathered}
+use Rattle.js_tree.specs.Parts.{Node, AnExpr, AFunction, APattern, AStmt, ASlot, ATail, ABody, as_nodes, items_in, tail_parts, tails_behind, in_expr, in_function, in_pattern, in_slot, in_stmt, expr_parts, parts, heights, height, height_over, folded_to, folded, count, unless_passed, gathered}
 use Rattle.js_tree.proofs.Folds.{map_listed}
 
 pub map_again : {A B C : Type 0} (g : B → C) (f : A → B) (xs : List A) → map (λ x. g (f x)) xs ≡ map g (map f xs)

@@ -1,5 +1,5 @@
 -- What the tokens of a text are: each has a place of its own, below the end of the text.
-use Rattle.std.proofs.Common.{◌≡◌, ℕ, ◌+◌, ◌-◌, ◌<◌, ◌≤◌, ◌==◌, Bool, true, false, cond, not, ◌||◌, nat_le, nat_lt, List, [], ◌∷◌, ◌++◌, map, drop, length, length-append, length-drop, append_assoc, refl, sym, ap, ◌∙◌, subst, arith}
+use Rattle.std.proofs.Common.{◌≡◌, ℕ, ◌+◌, ◌<◌, ◌≤◌, ◌==◌, Bool, true, false, cond, not, ◌||◌, nat_le, nat_lt, List, [], ◌∷◌, ◌++◌, map, length, length-append, length-drop, append_assoc, refl, sym, ap, ◌∙◌, subst, arith}
 use Rattle.std.specs.List.{AllByRecursion, count_by, flat_map}
 use Rattle.std.proofs.lemmas.Bool.Decides.{Decides-ltb, nat_tests}
 use Rattle.std.proofs.lemmas.List.Sums.{sum_by-append, sum_by-cons}
@@ -15,7 +15,7 @@ use Rattle.js_tree.specs.declared.tree.Tail.{Tail}
 use Rattle.js_tree.specs.declared.tree.Tail.TheVariants as tail
 use Rattle.js_tree.specs.declared.tree.Tree.{Tree}
 use Rattle.js_tree.specs.Folds.{ExprLayer, FunctionLayer}
-use Rattle.js_tree.specs.Lexing.{IsOf, LexesTo, Next, Place, ahead, start_of}
+use Rattle.js_tree.specs.Lexing.{IsOf, LexesTo, Place, start_of}
 use Rattle.js_tree.specs.Parts.{Node, AnExpr, AFunction, APattern, AStmt, ASlot, ATail, ABody, expr_parts, items_in, parts, tails_behind}
 use Rattle.js_tree.specs.Spelling.{tokens_of}
 use Rattle.js_tree.specs.Spells.{Spells, limit}
@@ -134,7 +134,6 @@ lexed p q (t ∷ ts) (m, n, rest) =
       each = (record { begin = omega (arith, start); end = omega (arith, start, gap, fits, cut); form = form }, later p.at m.at (p.at + length p.left) ts (omega (arith, at)) each);
       once = λ s. once_more s t m.at (p.at + length p.left) ts (omega (arith, start, at, some)) each (r.once s);
     }
-
 
 fits_by : (a b : ℕ) → nat_le a b ≡ true → a ≤ b
 fits_by a b e = grind (arith, nat_tests, e)

@@ -1,28 +1,25 @@
 -- The tokens of a node are among those of its spelling.
-use Rattle.std.proofs.Common.{◌≡◌, ℕ, ◌+◌, ◌≤◌, Bool, List, [], ◌∷◌, ◌++◌, map, cond, refl, sym, ap, ◌∙◌, subst, arith, Option, Some, None}
+use Rattle.std.proofs.Common.{◌≡◌, ℕ, ◌+◌, ◌≤◌, Bool, List, [], ◌∷◌, ◌++◌, map, cond, refl, ap, ◌∙◌, subst, arith, Option, Some, None}
 use Rattle.std.specs.List.{AllByRecursion, count_by, flat_map}
 use Rattle.std.proofs.lemmas.List.Sums.{sum_by-append, sum_by-cons}
-use Rattle.js_tree.specs.declared.kind.TheConstants.{COMMA, EQUALS, FUNCTION, LEFT_BRACE, LEFT_PAREN, NAME, RIGHT_BRACE, RIGHT_PAREN, SEMICOLON, VAR}
+use Rattle.js_tree.specs.declared.kind.TheConstants.{COMMA, EQUALS, LEFT_BRACE, NAME, RIGHT_BRACE, RIGHT_PAREN, SEMICOLON}
 use Rattle.js_tree.specs.declared.token.Token.{Token}
-use Rattle.js_tree.specs.declared.tree.Block.{Block}
 use Rattle.js_tree.specs.declared.tree.Expr.{Expr, out-Expr}
-use Rattle.js_tree.specs.declared.tree.Expr.TheOpen.{Expr-F, Function-F, Pattern-F, Stmt-F}
 use Rattle.js_tree.specs.declared.tree.Expr.TheVariants as expression
 use Rattle.js_tree.specs.declared.tree.Function.{Function, out-Function}
 use Rattle.js_tree.specs.declared.tree.Function.TheVariants as made
 use Rattle.js_tree.specs.declared.tree.Init.{Init}
 use Rattle.js_tree.specs.declared.tree.Listed.{Listed}
-use Rattle.js_tree.specs.declared.tree.Params.{Params}
 use Rattle.js_tree.specs.declared.tree.Pattern.{Pattern, out-Pattern}
 use Rattle.js_tree.specs.declared.tree.Pattern.TheVariants as bound
 use Rattle.js_tree.specs.declared.tree.Slot.{Slot, out-Slot}
-use Rattle.js_tree.specs.declared.tree.Stmt.{Stmt, out-Stmt}
+use Rattle.js_tree.specs.declared.tree.Stmt.{Stmt}
 use Rattle.js_tree.specs.declared.tree.Stmt.TheVariants as statement
 use Rattle.js_tree.specs.declared.tree.Tail.{Tail}
 use Rattle.js_tree.specs.declared.tree.Tail.TheVariants as tail
 use Rattle.js_tree.specs.Folds.{seen_pattern, seen_stmt, seen_slot, seen_function}
 use Rattle.js_tree.specs.Parts.{Node, AnExpr, AFunction, APattern, AStmt, ASlot, ATail, ABody, as_nodes, expr_parts, in_function, in_pattern, in_slot, in_stmt, items_in, parts, tails_behind}
-use Rattle.js_tree.specs.Spelling.{Onto, Piece, Seen, each_of, expr, function, init_line, listed_line, maybe, one, params_line, pattern, slot, stmt, stmts, tail_line, tokens}
+use Rattle.js_tree.specs.Spelling.{Onto, Piece, Seen, each_of, expr, function, listed_line, maybe, one, params_line, pattern, slot, stmt, stmts, tail_line, tokens}
 use Rattle.js_tree.specs.Tokens.{expr_tokens, function_tokens, pattern_tokens, name_tokens, own_tokens, tokens_in}
 use Rattle.js_tree.proofs.GatherLemmas.{along_parts}
 use Rattle.js_tree.proofs.PartLemmas.{gathered_is, parts-Vars}
@@ -124,21 +121,21 @@ module _ (p : Token → Bool) where
       covers (AnExpr x) [] (APattern target ∷ AnExpr value ∷ []) (ap (λ y. expr_tokens (out-Expr y)) e ∙ ap expr_tokens (expression.outs-Assign target op value)) (ap (λ y. parts (AnExpr y)) e ∙ ap expr_parts (expression.outs-Assign target op value))
       (spelling.assign_seen target op value).line (λ rest. ap (λ (s : Seen). s.line rest) (ap expr e ∙ spelling.at-Assign target op value)) each
       (λ h rest.
-          let behind = (expr value).line rest in
-          let a = h.0 (one op EQUALS behind) in
-          let b = h.1.0 rest in
-          let c = more op (tokens behind) in
-          let d = next (APattern target) (AnExpr value ∷ []) in
-          let f = lone (AnExpr value) in
-          omega (arith, a, b, c, d, f))
+      let behind = (expr value).line rest in
+      let a = h.0 (one op EQUALS behind) in
+      let b = h.1.0 rest in
+      let c = more op (tokens behind) in
+      let d = next (APattern target) (AnExpr value ∷ []) in
+      let f = lone (AnExpr value) in
+      omega (arith, a, b, c, d, f))
   expr_covers x (spelling.IsChain head tails e) each =
       covers (AnExpr x) [] (AnExpr head ∷ tails_behind head [] tails) (ap (λ y. expr_tokens (out-Expr y)) e ∙ ap expr_tokens (expression.outs-Chain head tails)) (ap (λ y. parts (AnExpr y)) e ∙ ap expr_parts (expression.outs-Chain head tails))
       (spelling.chain_seen head tails).line (λ rest. ap (λ (s : Seen). s.line rest) (ap expr e ∙ spelling.at-Chain head tails)) each
       (λ h rest.
-          let a = h.0 (each_of (tail_line expr) tails rest) in
-          let b = tails_cover head [] tails h.1 rest in
-          let c = next (AnExpr head) (tails_behind head [] tails) in
-          omega (arith, a, b, c))
+      let a = h.0 (each_of (tail_line expr) tails rest) in
+      let b = tails_cover head [] tails h.1 rest in
+      let c = next (AnExpr head) (tails_behind head [] tails) in
+      omega (arith, a, b, c))
   expr_covers x (spelling.IsValue f e) each =
       covers (AnExpr x) [] (AFunction f ∷ []) (ap (λ y. expr_tokens (out-Expr y)) e ∙ ap expr_tokens (expression.outs-Fun f)) (ap (λ y. parts (AnExpr y)) e ∙ ap expr_parts (expression.outs-Fun f))
       (function f).line (λ rest. ap (λ (s : Seen). s.line rest) (ap expr e ∙ spelling.at-Value f)) each
@@ -158,17 +155,17 @@ module _ (p : Token → Bool) where
       (ap (λ y. parts (AFunction y)) e ∙ ap (λ y. in_function (seen_function as_nodes y)) (made.outs-Keyword word name params body))
       (spelling.keyword_seen word name params body).line (λ rest. ap (λ (s : Seen). s.line rest) (ap function e ∙ spelling.at-Keyword word name params body)) each
       (λ h rest.
-          let last = one body.end RIGHT_BRACE rest in
-          let inner = one body.begin LEFT_BRACE (stmts body.body last) in
-          let a = body_covers body.body h last in
-          let b = more body.end (tokens rest) in
-          let c = more body.begin (tokens (stmts body.body last)) in
-          let d = more params.close (tokens inner) in
-          let f = more params.open (params.close ∷ tokens inner) in
-          let g = named name NAME (params_line params inner) in
-          let i = more word (tokens (maybe name NAME (params_line params inner))) in
-          let j = more word (name_tokens name) in
-          omega (arith, a, b, c, d, f, g, i, j))
+      let last = one body.end RIGHT_BRACE rest in
+      let inner = one body.begin LEFT_BRACE (stmts body.body last) in
+      let a = body_covers body.body h last in
+      let b = more body.end (tokens rest) in
+      let c = more body.begin (tokens (stmts body.body last)) in
+      let d = more params.close (tokens inner) in
+      let f = more params.open (params.close ∷ tokens inner) in
+      let g = named name NAME (params_line params inner) in
+      let i = more word (tokens (maybe name NAME (params_line params inner))) in
+      let j = more word (name_tokens name) in
+      omega (arith, a, b, c, d, f, g, i, j))
 
   pattern_covers : (x : Pattern) → spelling.PatternKind x → AllByRecursion Covers (parts (APattern x)) → Covers (APattern x)
   pattern_covers x (spelling.IsTarget t e) each =
@@ -189,18 +186,18 @@ module _ (p : Token → Bool) where
       covers (AStmt x) [] (AnExpr value ∷ []) refl (ap (λ y. parts (AStmt y)) e ∙ ap (λ y. in_stmt (seen_stmt as_nodes y)) (statement.outs-Plain value semi))
       (spelling.plain_seen value semi).line (λ rest. ap (λ (s : Seen). s.line rest) (ap stmt e ∙ spelling.at-Plain value semi)) each
       (λ h rest.
-          let a = h.0 (maybe semi SEMICOLON rest) in
-          let b = unless semi SEMICOLON rest in
-          let c = lone (AnExpr value) in
-          omega (arith, a, b, c))
+      let a = h.0 (maybe semi SEMICOLON rest) in
+      let b = unless semi SEMICOLON rest in
+      let c = lone (AnExpr value) in
+      omega (arith, a, b, c))
   stmt_covers x (spelling.IsVars word decls semi e) each =
       covers (AStmt x) [] (map ASlot (items_in decls)) refl (ap (λ y. parts (AStmt y)) e ∙ parts-Vars word decls semi)
       (spelling.vars_seen word decls semi).line (λ rest. ap (λ (s : Seen). s.line rest) (ap stmt e ∙ spelling.at-Vars word decls semi)) each
       (λ h rest.
-          let a = items slot ASlot (λ y r. refl) decls h (maybe semi SEMICOLON rest) in
-          let b = unless semi SEMICOLON rest in
-          let c = more word (tokens (each_of (listed_line slot) decls (maybe semi SEMICOLON rest))) in
-          omega (arith, a, b, c))
+      let a = items slot ASlot (λ y r. refl) decls h (maybe semi SEMICOLON rest) in
+      let b = unless semi SEMICOLON rest in
+      let c = more word (tokens (each_of (listed_line slot) decls (maybe semi SEMICOLON rest))) in
+      omega (arith, a, b, c))
 
   slot_covers : (x : Slot) (init : Option (Init Expr)) → (out-Slot x).init ≡ init → AllByRecursion Covers (parts (ASlot x)) → Covers (ASlot x)
   slot_covers x None e each =
@@ -213,13 +210,13 @@ module _ (p : Token → Bool) where
       covers (ASlot x) [] (APattern target ∷ AnExpr init.value ∷ []) refl (ap (λ i. in_slot (seen_slot as_nodes (record { target = target; init = i }))) e)
       (spelling.slot_seen target (Some init)).line (λ rest. ap (λ (s : Seen). s.line rest) (spelling.at-Slot x ∙ ap (spelling.slot_seen target) e)) each
       (λ h rest.
-          let behind = (expr init.value).line rest in
-          let a = h.0 (one init.equals EQUALS behind) in
-          let b = h.1.0 rest in
-          let c = more init.equals (tokens behind) in
-          let d = next (APattern target) (AnExpr init.value ∷ []) in
-          let f = lone (AnExpr init.value) in
-          omega (arith, a, b, c, d, f))
+      let behind = (expr init.value).line rest in
+      let a = h.0 (one init.equals EQUALS behind) in
+      let b = h.1.0 rest in
+      let c = more init.equals (tokens behind) in
+      let d = next (APattern target) (AnExpr init.value ∷ []) in
+      let f = lone (AnExpr init.value) in
+      omega (arith, a, b, c, d, f))
 
   tail_covers : (head : Expr) (before : List (Tail Expr)) (t : Tail Expr) → AllByRecursion Covers (parts (ATail head before t)) → Covers (ATail head before t)
   tail_covers head before (tail.Member dot name) each =
@@ -228,11 +225,11 @@ module _ (p : Token → Bool) where
   tail_covers head before (tail.Call a) each =
       covers (ATail head before (tail.Call a)) (a.open ∷ []) (map AnExpr (items_in a.items)) refl refl (tail_line expr (tail.Call a)) (λ rest. refl) each
       (λ h rest.
-          let last = one a.close RIGHT_PAREN rest in
-          let b = items expr AnExpr (λ y r. refl) a.items h last in
-          let c = more a.close (tokens rest) in
-          let d = both (a.open ∷ []) (tokens (each_of (listed_line expr) a.items last)) in
-          omega (arith, b, c, d))
+      let last = one a.close RIGHT_PAREN rest in
+      let b = items expr AnExpr (λ y r. refl) a.items h last in
+      let c = more a.close (tokens rest) in
+      let d = both (a.open ∷ []) (tokens (each_of (listed_line expr) a.items last)) in
+      omega (arith, b, c, d))
 
   body_covers_all : (body : List Stmt) → AllByRecursion Covers (parts (ABody body)) → Covers (ABody body)
   body_covers_all body each = covers (ABody body) [] (map AStmt body) refl refl (stmts body) (λ rest. refl) each (λ h rest. let a = body_covers body h rest in omega (arith, a))

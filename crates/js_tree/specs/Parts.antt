@@ -1,9 +1,8 @@
 -- The parts of a node of any kind, in the order of the text, and what is gathered from a node and its parts.
-use Rattle.std.specs.Prelude.{ℕ, zero, suc, ◌+◌, List, [], ◌∷◌, ◌++◌, map, sum, Option, Some, None}
+use Rattle.std.specs.Prelude.{ℕ, zero, suc, List, [], ◌∷◌, ◌++◌, map, sum, Option, Some, None}
 use Rattle.std.specs.List.{flat_map}
 use Rattle.js_tree.specs.declared.node.Node.{Node as Given}
 use Rattle.js_tree.specs.declared.node.Node.TheVariants as given
-use Rattle.js_tree.specs.declared.tree.Arguments.{Arguments}
 use Rattle.js_tree.specs.declared.tree.Expr.{Expr, out-Expr}
 use Rattle.js_tree.specs.declared.tree.Expr.TheOpen.{Expr-F, Function-F, Pattern-F, Stmt-F, Slot-F}
 use Rattle.js_tree.specs.declared.tree.Function.{Function, out-Function}

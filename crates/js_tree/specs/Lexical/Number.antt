@@ -1,5 +1,5 @@
 -- Numbers (ECMA-262, 11.8.3 and B.1.1).
-use Rattle.std.specs.Prelude.{ℕ, ◌==◌, ◌||◌, ◌&&◌, nat_le, Bool, true, false, if◌then◌else◌}
+use Rattle.std.specs.Prelude.{ℕ, ◌==◌, ◌||◌, ◌&&◌, Bool, true, false, if◌then◌else◌}
 use Rattle.std.specs.Char.{is_digit as is_digit_of}
 use Rattle.js_tree.specs.Lexical.Character.{is_digit, is_hex}
 use Rattle.js_tree.specs.declared.part.NumberPart.{NumberPart}

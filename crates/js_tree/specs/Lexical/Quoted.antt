@@ -1,5 +1,5 @@
 -- Strings (ECMA-262, 11.8.4). What matters here is ASCII, so that these read bytes: those of other characters are past 127.
-use Rattle.std.specs.Prelude.{ℕ, zero, suc, ◌+◌, ◌*◌, ◌-◌, ◌==◌, ◌||◌, ◌&&◌, nat_le, nat_lt, Bool, true, false, if◌then◌else◌}
+use Rattle.std.specs.Prelude.{ℕ, ◌+◌, ◌*◌, ◌-◌, ◌==◌, ◌||◌, nat_le, nat_lt, Bool, true, false, if◌then◌else◌}
 use Rattle.std.specs.Char.{digit_value}
 use Rattle.js_tree.specs.Lexical.Character.{is_hex}
 use Rattle.js_tree.specs.declared.part.StringPart.{StringPart}

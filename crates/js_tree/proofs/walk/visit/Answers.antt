@@ -1,14 +1,13 @@
-use Rattle.std.proofs.Common.{◌≡◌, ◌++◌, [], map, ap, sym, ◌∙◌, append_assoc, arith, subst, Some, None, List, reverse, ◌<◌, ◌+◌}
-use Rattle.std.specs.List.{AllByRecursion, flat_map, sum_by}
+use Rattle.std.proofs.Common.{◌≡◌, ◌++◌, map, ap, sym, ◌∙◌, arith, subst, Some, None}
+use Rattle.std.specs.List.{AllByRecursion}
 use Rattle.std.specs.Option.{option_map}
 use Rattle.std.proofs.lemmas.List.Folds.{flat_map-map}
-use Rattle.std.proofs.lemmas.List.Sums.{sum-map}
 use Rattle.std.proofs.lemmas.Result.{on_ok_weaker}
 use Rattle.js_tree.specs.Parts.{node_of, parts, count, gathered, left_in}
 use Rattle.js_tree.specs.Tokens.{IsInText}
 use Rattle.js_tree.specs.declared.node.Node.{Node as Given}
 use Rattle.js_tree.specs.declared.walk.Pending.{Pending}
-use Rattle.js_tree.proofs.PartLemmas.{all_gathered, gathered_is, gathered_passed, count_is}
+use Rattle.js_tree.proofs.PartLemmas.{gathered_passed, count_is}
 use Rattle.js_tree.proofs.TextLemmas.{parts_in_text}
 use Rattle.js_tree.proofs.WalkLemmas.{each_put, each_seen, fewer_left, sum_mapped, visited}
 use Rattle.js_tree.proofs.walk.visit.Goals as goal
