@@ -1,21 +1,9 @@
 -- The chains of one edge more.
-use Rattle.std.proofs.Common.{◌≡◌, ℕ, ◌+◌, ◌<◌, inl, inr, List, [], ◌∷◌, ◌++◌, replicate, set, slice_index, refl, sym, ◌∙◌, ap, subst, arith}
+use Rattle.std.proofs.Common.{◌≡◌, ℕ, ◌+◌, ◌<◌, inl, inr, List, [], ◌∷◌, ◌++◌, set, slice_index, sym, ◌∙◌, ap, subst, arith}
 use Rattle.std.proofs.lemmas.Bool.{cases_eq}
-use Rattle.std.proofs.lemmas.List.{length-replicate, get_or-replicate, length-set, length_push, get_or-set_same, get_or-set_other, get_or_append_left, get_or_push}
+use Rattle.std.proofs.lemmas.List.{length-set, length_push, get_or-set_same, get_or-set_other, get_or_append_left, get_or_push}
 use Rattle.reach_path.specs.Graphs.{Numbered, from}
 use Rattle.reach_path.specs.Chains.{AreChains, IsLastFrom}
-
-pub AreChains-none : (g : Numbered) → AreChains g 0 (replicate g.nodes 0) []
-AreChains-none g = record {
-  heads_length = length-replicate g.nodes 0;
-  nexts_length = refl;
-  heads_are = λ u lt. subst (IsLastFrom g u 0) (sym (get_or-replicate g.nodes u 0 0 lt)) (record {
-    within = omega arith;
-    here = λ i e. absurd (omega (arith, e));
-    none_behind = λ i _ l _. absurd (omega (arith, l));
-  });
-  nexts_are = λ i lt. absurd (omega (arith, lt));
-}
 
 -- behind the edge at place k it is the last one from its caller
 newest : (g : Numbered) (k : ℕ) → IsLastFrom g (from g k) (k + 1) (k + 1)

@@ -1,6 +1,6 @@
 -- The list of the reachable functions, by their numbers, and all that is made.
 use Rattle.std.proofs.Common.{◌≡◌, ℕ, zero, suc, ◌+◌, ◌-◌, ◌<◌, ◌≤◌, ◌⊎◌, inl, inr, Bool, true, false, cond, List, [], ◌∷◌, length, map, slice_index, nat_lt, sum, refl, sym, ◌∙◌, ap, subst, arith, lt-ltb, ltb-true}
-use Rattle.std.specs.Prelude.{All, Contains}
+use Rattle.std.specs.Prelude.{◌↔◌, All, Contains, IsTrue, Option, Some, None, is_some}
 use Rattle.std.specs.List.{count_by, AllByRecursion}
 use Rattle.std.specs.List.Sorted.{IsStrictlySortedBy}
 use Rattle.std.specs.declared.cmp.Ordering.{Ordering}
@@ -17,7 +17,7 @@ use Rattle.reach_path.specs.declared.lasts.Last.{Last}
 use Rattle.reach_path.specs.Lasts.{AreLasts}
 use Rattle.reach_path.specs.Levels.{IsBetween, IsFunction, IsReachable, body_of}
 use Rattle.reach_path.specs.Numbers.{function_at, number_of, starts_from}
-use Rattle.reach_path.specs.Reached.{AreReachable, IsKept, IsReachOf, Reached, function_order}
+use Rattle.reach_path.specs.Reached.{AreReachable, IsKept, IsReachOf, Reached, function_order, path_to}
 use Rattle.reach_path.specs.Search.{AreLevels}
 use Rattle.reach_path.proofs.NumberLemmas.{AreStarts-from, function_at-number, number_below, starts_rise, starts_within, length-starts_from}
 use Rattle.reach_path.proofs.RouteLemmas.{function_of_steps, has_level, is_level, none_found, numbers, path_found, walked}
@@ -171,10 +171,14 @@ module _ (counts : List ℕ) (edges : List Edge) (entry : ℕ) (all : All (IsBet
 
     pub reach_made : IsStrictlySortedBy edge_order edges → IsReachOf edges entry made
     reach_made sorted = record {
+      has = λ f. found f (path_to made f) refl;
       path = path_found counts edges entry all body levels h sorted lasts l;
-      none = none_found counts edges entry all body levels h sorted lasts l;
       count = (reachable, are_reachable, sym (counted 0 levels) ∙ sym (length-map (with_level 0 levels) (function_at (starts_from 0 counts))));
     }
+      where
+        found : (f : FunctionRef) (o : Option (List Edge)) → path_to made f ≡ o → IsTrue (is_some o) ↔ IsReachable edges entry f
+        found f None e = (λ some. cc some, λ reachable. absurd (none_found counts edges entry all body levels h sorted lasts l f e reachable))
+        found f (Some path) e = (λ _. (length path, (path_found counts edges entry all body levels h sorted lasts l f path e).level), λ _. refl)
 
     pub kept_made : length counts ≤ 4294967294 → sum counts < 4294967296 → IsKept made
     kept_made few fits = record {

@@ -1,17 +1,10 @@
 -- The last edges of paths, one edge more.
-use Rattle.std.proofs.Common.{◌≡◌, ℕ, ◌+◌, ◌<◌, ◌≤◌, inl, inr, true, false, List, length, replicate, set, sym, ◌∙◌, ap, arith}
+use Rattle.std.proofs.Common.{◌≡◌, ℕ, ◌+◌, ◌<◌, ◌≤◌, inl, inr, true, false, List, length, set, sym, ◌∙◌, ap, arith}
 use Rattle.std.proofs.lemmas.Bool.{cases_Bool, cases_eq}
-use Rattle.std.proofs.lemmas.List.{length-replicate, get_or-replicate, length-set, get_or-set_same, get_or-set_other}
+use Rattle.std.proofs.lemmas.List.{length-set, get_or-set_same, get_or-set_other}
 use Rattle.reach_path.specs.declared.lasts.Last.{Last}
 use Rattle.reach_path.specs.Graphs.{Numbered, from, to}
-use Rattle.reach_path.specs.Lasts.{AreLasts, IsFirst, kept, last_at, last_of, leads_on, no_last}
-
-pub AreLasts-none : (g : Numbered) (levels : List ℕ) (k : ℕ) → length g.edges ≤ k → AreLasts g levels k (replicate g.nodes no_last)
-AreLasts-none g levels k le = record {
-  size = length-replicate g.nodes no_last;
-  callers = λ v lt. omega (arith, lt, ap (λ (x : Last). x.caller) (get_or-replicate g.nodes v no_last no_last lt));
-  first = λ v i from_k lt. absurd (omega (arith, from_k, lt, le));
-}
+use Rattle.reach_path.specs.Lasts.{AreLasts, IsFirst, last_at, last_of, lasts_with, leads_on, no_last}
 
 earlier : (g : Numbered) (levels : List ℕ) (k v m : ℕ) → (to g k ≡ v → leads_on g levels k ≡ true → ⊥) → IsFirst g levels (k + 1) v m → IsFirst g levels k v m
 earlier g levels k v m other h = record {
@@ -60,7 +53,7 @@ taken g levels k lasts lt callee_below caller_below on h =
     behind : (v i : ℕ) → k ≤ i → to g i ≡ v → (v ≡ to g k → ⊥) → k + 1 ≤ i
     behind v i le callee apart = elim (cases_eq i k) [ inl same ↦ absurd (apart (sym callee ∙ ap (to g) same)) | inr far ↦ grind (arith, le, far) ]
 
-pub AreLasts-kept : (g : Numbered) (levels : List ℕ) (k : ℕ) (lasts : List Last) → k < length g.edges → to g k < g.nodes → from g k < g.nodes → AreLasts g levels (k + 1) lasts → AreLasts g levels k (kept g levels lasts k)
+pub AreLasts-kept : (g : Numbered) (levels : List ℕ) (k : ℕ) (lasts : List Last) → k < length g.edges → to g k < g.nodes → from g k < g.nodes → AreLasts g levels (k + 1) lasts → AreLasts g levels k (lasts_with g levels lasts k)
 AreLasts-kept g levels k lasts lt callee_below caller_below h = elim (cases_Bool (leads_on g levels k)) [
   | inl on ↦ rw on (taken g levels k lasts lt callee_below caller_below on h)
   | inr off ↦ rw off (passed g levels k lasts off h)

@@ -3,4 +3,5 @@ pub mod CountLemmas
 pub mod SearchLemmas
 pub mod LastLemmas
 pub mod NumberLemmas
+pub mod PathLemmas
 pub mod RouteLemmas

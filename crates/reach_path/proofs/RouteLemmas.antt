@@ -66,7 +66,7 @@ same_order a b e greater = go (nat_cmp a.caller.module b.caller.module) (nat_cmp
     (sym (nat_cmp_is a.caller.function b.caller.function Equal (ap (λ (x : Edge). x.caller.function) e))) greater
   where
     go : (m o f : Ordering) → m ≡ Equal → o ≡ Equal → f ≡ Equal → ordering_then m (ordering_then o f) ≡ Greater → ⊥
-    go m o f em eo ef greater = cc (ap (λ x. ordering_then x (ordering_then o f)) (sym em) ∙ greater, em, eo, ef)
+    go m o f em eo ef greater = cc (ap (λ x. ordering_then x (ordering_then o f)) (sym em) ∙ greater, eo, ef)
 
 module _ (counts : List ℕ) (edges : List Edge) (entry : ℕ) (all : All (IsBetween counts) edges) (body : IsFunction counts (body_of entry)) where
   abbrev number : FunctionRef → ℕ

@@ -1,19 +1,14 @@
 -- Steps of the search, and what it ends with.
-use Rattle.std.proofs.Common.{◌≡◌, ℕ, zero, suc, ◌+◌, ◌<◌, ◌≤◌, inl, inr, cond, List, [], ◌∷◌, ◌++◌, length, replicate, set, slice_index, get_or, nat_eq, refl, sym, ◌∙◌, ap, subst, arith, ne_eqb}
+use Rattle.std.proofs.Common.{◌≡◌, ℕ, zero, suc, ◌+◌, ◌<◌, ◌≤◌, inl, inr, cond, List, [], ◌∷◌, ◌++◌, length, set, slice_index, get_or, nat_eq, refl, sym, ◌∙◌, ap, subst, arith, ne_eqb}
 use Rattle.std.proofs.lemmas.Bool.{cases_eq, cases_lt}
-use Rattle.std.proofs.lemmas.List.{length-replicate, get_or-replicate, get_or_past, length-set, length_push, get_or-set_same, get_or-set_other, get_or_append_left, get_or_push}
+use Rattle.std.proofs.lemmas.List.{length-set, length_push, get_or-set_same, get_or-set_other, get_or_append_left, get_or_push}
 use Rattle.std.proofs.lemmas.List.Sums.{sum_by-set}
-use Rattle.std.proofs.lemmas.List.Folds.{sum_by-replicate}
 use Rattle.reach_path.specs.Graphs.{Numbered, from, to, HasSteps}
 use Rattle.reach_path.specs.Chains.{IsLastFrom}
 use Rattle.reach_path.specs.Search.{AreLevels, IsFollowed, IsSearch, Offered, without_level}
 
 abbrev level : List ℕ → ℕ → ℕ
 level = slice_index
-
--- what has a level is in range
-in_range : (levels : List ℕ) (v : ℕ) → 0 < level levels v → v < length levels
-in_range levels v pos = elim (cases_lt v (length levels)) [ inl lt ↦ lt | inr le ↦ absurd (omega (arith, pos, get_or_past levels v 0 le)) ]
 
 -- one function fewer is without a level
 pub count_set : (levels : List ℕ) (v n : ℕ) → v < length levels → level levels v ≡ 0 → 0 < n → without_level (set levels v n) + 1 ≡ without_level levels
@@ -22,47 +17,6 @@ count_set levels v n lt none pos =
     let was : f (get_or levels v 0) ≡ 1 = ap f none in
     let now : f n ≡ 0 = ap (λ b. cond b 1 0) (ne_eqb n 0 (λ e. absurd (omega (arith, e, pos)))) in
     omega (arith, sum_by-set f levels v n 0 lt, was, now)
-
--- the entry's body waits
-pub IsSearch-begun : (g : Numbered) → g.begin < g.nodes → g.nodes < 4294967296 → IsSearch g 0 (set (replicate g.nodes 0) g.begin 1) (g.begin ∷ [])
-IsSearch-begun g begin_below fits =
-    let none = replicate g.nodes 0 in
-    let size : length none ≡ g.nodes = length-replicate g.nodes 0 in
-    let here : level (set none g.begin 1) g.begin ≡ 1 = get_or-set_same none g.begin 1 0 (omega (arith, begin_below, size)) in
-    let empty : (v : ℕ) → level none v ≡ 0 = λ v. elim (cases_lt v g.nodes) [ inl lt ↦ get_or-replicate g.nodes v 0 0 lt | inr le ↦ get_or_past none v 0 (omega (arith, le, size)) ] in
-    let known : (v : ℕ) → 0 < level (set none g.begin 1) v → v ≡ g.begin = λ v pos. elim (cases_eq v g.begin) [
-      | inl same ↦ same
-      | inr apart ↦ absurd (omega (arith, pos, get_or-set_other none g.begin v 1 0 apart, empty v))
-    ] in
-    let at_most : (v : ℕ) → level (set none g.begin 1) v ≤ 1 = λ v. elim (cases_eq v g.begin) [
-      | inl same ↦ omega (arith, here, ap (level (set none g.begin 1)) same)
-      | inr apart ↦ omega (arith, get_or-set_other none g.begin v 1 0 apart, empty v)
-    ] in
-    record {
-      fits = fits;
-      size = length-set none g.begin 1 ∙ size;
-      begun = here;
-      steps = λ v n e. begin_steps v n (known v (omega (arith, e))) (omega (arith, e, at_most v));
-      queued = λ v pos. (0, omega arith, sym (known v pos));
-      members = λ j lt. one_item (λ u. u < g.nodes) j lt begin_below;
-      leveled = λ j lt. one_item (λ u. 0 < level (set none g.begin 1) u) j lt (omega (arith, here));
-      rising = λ j k le lt. omega (arith, at_most (level (g.begin ∷ []) j), one_item (λ u. level (set none g.begin 1) u ≡ 1) k lt here);
-      near = λ v _. omega (arith, at_most v);
-      followed = λ j e lt. absurd (omega (arith, lt));
-      counted = omega (arith, count_set none g.begin 1 (omega (arith, begin_below, size)) (empty g.begin) (omega arith), all_without g.nodes);
-      low = at_most;
-    }
-  where
-    begin_steps : (v n : ℕ) → v ≡ g.begin → n ≡ 0 → HasSteps g n v
-    begin_steps v zero e _ = e
-    begin_steps v (suc n) e z = absurd (omega (arith, z))
-
-    one_item : (P : ℕ → Type 0) (j : ℕ) → j < length (g.begin ∷ []) → P g.begin → P (level (g.begin ∷ []) j)
-    one_item P zero lt p = p
-    one_item P (suc j) lt p = absurd (omega (arith, lt))
-
-    all_without : (n : ℕ) → without_level (replicate n 0) ≡ n
-    all_without n = omega (arith, sum_by-replicate (λ l. cond (nat_eq l 0) 1 0) n 0)
 
 -- a function without a level gets the next one
 pub IsSearch-got : (g : Numbered) (i : ℕ) (levels order : List ℕ) (v n : ℕ) → IsSearch g i levels order → i < length order → v < g.nodes
@@ -169,26 +123,6 @@ IsFollowed-next g u m next levels leaves lt here h last e le inside caller = eli
   ]
 ]
 
--- a search whose function at place i has had all edges followed goes on behind it
-pub IsSearch-next : (g : Numbered) (i : ℕ) (levels order : List ℕ) → IsSearch g i levels order → i < length order → IsFollowed g (level order i) 0 levels → IsSearch g (i + 1) levels order
-IsSearch-next g i levels order h here all = record {
-  fits = h.fits;
-  size = h.size;
-  begun = h.begun;
-  steps = h.steps;
-  queued = h.queued;
-  members = h.members;
-  leveled = h.leveled;
-  rising = h.rising;
-  near = λ v lt. omega (arith, h.near v here, h.rising i (i + 1) (omega arith) lt);
-  followed = λ j e lt inside edge leaves. elim (cases_eq j i) [
-    | inl same ↦ (all e (omega arith) edge (leaves ∙ ap (level order) same), omega (arith, h.near (to g e) here, ap (λ x. level levels (level order x)) same))
-    | inr apart ↦ h.followed j e (grind (arith, lt, apart)) inside edge leaves
-  ];
-  counted = h.counted;
-  low = h.low;
-}
-
 -- where none waits any more, all levels are there
 pub AreLevels-end : (g : Numbered) (i : ℕ) (levels order : List ℕ) → IsSearch g i levels order → length order ≤ i → AreLevels g levels
 AreLevels-end g i levels order h past = record { size = h.size; steps = h.steps; least = least }
@@ -216,17 +150,6 @@ pub record Following (g : Numbered) (i u l next : ℕ) (levels order : List ℕ)
   pub within : next ≤ length g.edges
   pub caller : (m : ℕ) → next ≡ m + 1 → from g m ≡ u
   pub followed : IsFollowed g u next levels
-
-pub Following-begun : (g : Numbered) (i next : ℕ) (levels order : List ℕ) → IsSearch g i levels order → i < length order → IsLastFrom g (level order i) (length g.edges) next → Following g i (level order i) (level levels (level order i)) next levels order
-Following-begun g i next levels order h here last = record {
-  search = h;
-  here = here;
-  leaves = refl;
-  level_is = refl;
-  within = last.within;
-  caller = last.here;
-  followed = λ e le lt leaves. absurd (last.none_behind e le lt leaves);
-}
 
 pub Following-more : (g : Numbered) (i u l m next : ℕ) (levels order new_levels new_order : List ℕ) → m < length g.edges → to g m < g.nodes → Following g i u l (m + 1) levels order
     → Offered (to g m) (l + 1) levels order new_levels new_order → IsLastFrom g (from g m) m next → Following g i u l next new_levels new_order

@@ -20,9 +20,9 @@ leads_on g levels i = is_next (slice_index levels (from g i)) (slice_index level
 abbrev pub last_at : Numbered → ℕ → Last
 last_at g i = record { caller = from g i; offset = (edge_at g.edges i).offset }
 
--- the edge at a place is kept for its callee where it leads one level on
-abbrev pub kept : Numbered → List ℕ → List Last → ℕ → List Last
-kept g levels lasts i = cond (leads_on g levels i) (set lasts (to g i) (last_at g i)) lasts
+-- the last edges with the one at a place, which is kept for its callee where it leads one level on
+abbrev pub lasts_with : Numbered → List ℕ → List Last → ℕ → List Last
+lasts_with g levels lasts i = cond (leads_on g levels i) (set lasts (to g i) (last_at g i)) lasts
 
 -- the edge at place m is the first at place k or behind it that leads one level on to v
 pub record IsFirst (g : Numbered) (levels : List ℕ) (k v m : ℕ) : Type 0 where

@@ -1,5 +1,5 @@
 -- What is known of all functions: which of them are reachable, and the path to each.
-use Rattle.std.specs.Prelude.{ℕ, zero, suc, ◌≡◌, ◌<◌, ◌≤◌, ◌↔◌, cond, List, [], ◌∷◌, length, reverse, slice_index, Option, Some, None, nat_lt, Contains}
+use Rattle.std.specs.Prelude.{ℕ, zero, suc, ◌≡◌, ◌<◌, ◌≤◌, ◌↔◌, cond, List, [], ◌∷◌, length, reverse, slice_index, Option, Some, None, IsTrue, is_some, nat_lt, Contains}
 use Rattle.std.specs.List.{count_by}
 use Rattle.std.specs.List.Sorted.{IsStrictlySortedBy}
 use Rattle.std.specs.declared.cmp.Ordering.{Ordering}
@@ -50,8 +50,8 @@ pub record AreReachable (edges : List Edge) (entry : ℕ) (all : List FunctionRe
 
 -- it says of these edges and this entry which functions are reachable, how many these are, and the path to each
 pub record IsReachOf (edges : List Edge) (entry : ℕ) (r : Reached) : Type 0 where
+  pub has : (f : FunctionRef) → IsTrue (is_some (path_to r f)) ↔ IsReachable edges entry f
   pub path : (f : FunctionRef) (path : List Edge) → path_to r f ≡ Some path → IsPath edges entry f path
-  pub none : (f : FunctionRef) → path_to r f ≡ None → IsReachable edges entry f → ⊥
   pub count : (all : List FunctionRef) × AreReachable edges entry all × (count_of r ≡ length all)
 
 -- the lists fit together

@@ -15,7 +15,8 @@ pub(crate) struct Chains {
 
 /// The chains of all edges, made in one pass.
 pub(crate) fn chains_of(alloc: Global, graph: &Graph) -> Result<Chains, AllocError>
-    ensures { IfOk result (λ chains. AreChains graph.now (length graph.now.edges) chains.heads.items chains.nexts.items) }
+    ensures { IfOk result (λ chains.
+        AreChains graph.now (length graph.now.edges) chains.heads.items chains.nexts.items) }
 {
     let mut heads = vec![in alloc; 0u32; graph.nodes() as usize]?;
     let mut nexts = Vec::with_capacity(alloc, graph.len())?;

@@ -20,16 +20,36 @@ impl<'g> Model for Graph<'g> {
 
     ghost Value = { Numbered };
 
-    ghost view = { λ g. record { starts = g.starts.now; edges = g.edges.now; nodes = g.nodes; begin = g.begin } };
+    ghost view = { λ g. record {
+      starts = g.starts.now;
+      edges = g.edges.now;
+      nodes = g.nodes;
+      begin = g.begin;
+    } };
 
-    ghost invariant = { λ g. IsNumbered (record { starts = g.starts.now; edges = g.edges.now; nodes = g.nodes; begin = g.begin }) };
+    ghost invariant = { λ g. IsNumbered (record {
+      starts = g.starts.now;
+      edges = g.edges.now;
+      nodes = g.nodes;
+      begin = g.begin;
+    }) };
 }
 
 impl<'g> Graph<'g> {
     /// The edges, with the number of each module's first function and that of the entry's body.
     pub(crate) fn of(starts: &'g [u32], edges: &'g [Edge], nodes: u32, begin: u32) -> Graph<'g>
-        requires { graphs.IsNumbered (record { starts = starts.now; edges = edges.now; nodes = nodes; begin = begin }) }
-        ensures { result ≡ record { starts = starts.now; edges = edges.now; nodes = nodes; begin = begin } }
+        requires { graphs.IsNumbered (record {
+          starts = starts.now;
+          edges = edges.now;
+          nodes = nodes;
+          begin = begin;
+        }) }
+        ensures { result ≡ record {
+          starts = starts.now;
+          edges = edges.now;
+          nodes = nodes;
+          begin = begin;
+        } }
     {
         Graph {
             starts,

@@ -1,7 +1,7 @@
 //! The last edge of the path to each function.
 ghost use Rattle.std.specs.Prelude.{◌≡◌, ◌<◌, ◌+◌, ℕ, length, set, slice_index, IfOk};
 ghost use Rattle.reach_path.specs.Graphs as graphs;
-ghost use Rattle.reach_path.specs.Lasts.{AreLasts, is_next, kept, last_at, leads_on};
+ghost use Rattle.reach_path.specs.Lasts.{AreLasts, is_next, last_at, lasts_with, leads_on};
 
 use crate::graph::Graph;
 use std::alloc::{AllocError, Global};
@@ -41,7 +41,7 @@ fn keep(graph: &Graph, levels: &[u32], lasts: &mut Vec<Last>, place: usize)
     requires place { place < length graph.now.edges }
     requires levels { length levels.now ≡ graph.now.nodes }
     requires lasts { length lasts.old.items ≡ graph.now.nodes }
-    ensures kept { lasts.new.items ≡ kept graph.now levels.now lasts.old.items place }
+    ensures kept { lasts.new.items ≡ lasts_with graph.now levels.now lasts.old.items place }
     ensures from_below { graphs.from graph.now place < graph.now.nodes }
     ensures to_below { graphs.to graph.now place < graph.now.nodes }
 {

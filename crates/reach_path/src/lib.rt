@@ -10,11 +10,13 @@ mod chains;
 mod follow;
 mod graph;
 mod lasts;
+mod law;
 mod numbers;
 mod routes;
 mod search;
 
 pub use follow::reach;
+pub use law::one_path;
 pub use routes::Reach;
 
 #[cfg(test)]

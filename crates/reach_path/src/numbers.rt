@@ -38,7 +38,8 @@ pub(crate) fn number(starts: &[u32], function: FunctionRef) -> u32
 
 /// The number of a function, if there is such a function.
 pub(crate) fn number_if_there(starts: &[u32], function: FunctionRef) -> Option<u32>
-    ensures { result ≡ cond (is_numbered starts.now function) (Some (number_of starts.now function)) None }
+    ensures { result
+        ≡ cond (is_numbered starts.now function) (Some (number_of starts.now function)) None }
 {
     let module = function.module as usize;
     if module + 1 >= starts.len() {

@@ -22,9 +22,17 @@ impl Model for Reach {
 
     ghost Value = { Reached };
 
-    ghost view = { λ r. record { starts = r.starts.items; levels = r.levels.items; lasts = r.lasts.items } };
+    ghost view = { λ r. record {
+      starts = r.starts.items;
+      levels = r.levels.items;
+      lasts = r.lasts.items;
+    } };
 
-    ghost invariant = { λ r. IsKept (record { starts = r.starts.items; levels = r.levels.items; lasts = r.lasts.items }) };
+    ghost invariant = { λ r. IsKept (record {
+      starts = r.starts.items;
+      levels = r.levels.items;
+      lasts = r.lasts.items;
+    }) };
 }
 
 impl Reach {
@@ -62,7 +70,8 @@ impl Reach {
     // The path to the function of a number.
     fn path_at(&self, alloc: Global, number: u32) -> Result<Option<List<Edge>>, OutOfMemory>
         requires { number < length self.now.levels }
-        ensures { IfOk result (λ found. found ≡ path_at self.now (slice_index self.now.levels number) number) }
+        ensures { IfOk result (λ found.
+            found ≡ path_at self.now (slice_index self.now.levels number) number) }
     {
         let level = self.levels[number as usize];
         if level == 0 {

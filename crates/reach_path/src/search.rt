@@ -1,6 +1,5 @@
 //! The level of each function, by a search over its callers level by level.
 ghost use Rattle.std.specs.Prelude.{◌≡◌, ◌+◌, ◌<◌, ◌≤◌, ◌^◌, ℕ, length, slice_index, IfOk, OnOk};
-ghost use Rattle.reach_path.specs.Graphs as graphs;
 ghost use Rattle.reach_path.specs.Chains.{AreChains};
 ghost use Rattle.reach_path.specs.Search.{AreLevels, IsFollowed, IsSearch, Offered, without_level};
 
@@ -20,7 +19,7 @@ pub(crate) fn levels_of(alloc: Global, graph: &Graph) -> Result<Vec<u32>, AllocE
     ensures { IfOk result (λ levels. AreLevels graph.now levels.items) }
 {
     let chains = chains_of(alloc, graph)?;
-    let mut search = Search::begun(alloc, graph)?;
+    let mut search = Search::from_entry(alloc, graph)?;
     let mut i = 0;
     while i < search.order.len() {
         search.follow(graph, &chains, i)?;
@@ -32,8 +31,9 @@ pub(crate) fn levels_of(alloc: Global, graph: &Graph) -> Result<Vec<u32>, AllocE
 
 impl Search {
     // The entry's body waits, and nothing else.
-    fn begun(alloc: Global, graph: &Graph) -> Result<Search, AllocError>
-        ensures { IfOk result (λ search. IsSearch graph.now 0 search.levels.items search.order.items) }
+    fn from_entry(alloc: Global, graph: &Graph) -> Result<Search, AllocError>
+        ensures { IfOk result (λ search.
+            IsSearch graph.now 0 search.levels.items search.order.items) }
     {
         let begin = graph.begin();
         let mut levels = vec![in alloc; 0u32; graph.nodes() as usize]?;
@@ -45,10 +45,12 @@ impl Search {
 
     // Follows the edges from the function at place i of the order.
     fn follow(&mut self, graph: &Graph, chains: &Chains, i: usize) -> Result<(), AllocError>
-        requires chains { AreChains graph.now (length graph.now.edges) chains.now.heads.items chains.now.nexts.items }
+        requires chains { AreChains graph.now (length graph.now.edges)
+            chains.now.heads.items chains.now.nexts.items }
         requires search { IsSearch graph.now i self.old.levels.items self.old.order.items }
         requires here { i < length self.old.order.items }
-        ensures { OnOk result (IsSearch graph.now (i + 1) self.new.levels.items self.new.order.items) }
+        ensures { OnOk result
+            (IsSearch graph.now (i + 1) self.new.levels.items self.new.order.items) }
     {
         let from = self.order[i];
         let level = self.levels[from as usize];
@@ -65,7 +67,8 @@ impl Search {
     fn offer(&mut self, to: u32, level: u32) -> Result<(), AllocError>
         requires inside { to < length self.old.levels.items }
         requires room { slice_index self.old.levels.items to ≡ 0 → level + 1 < 2 ^ 32 }
-        ensures { OnOk result (Offered to (level + 1) self.old.levels.items self.old.order.items self.new.levels.items self.new.order.items) }
+        ensures { OnOk result (Offered to (level + 1) self.old.levels.items self.old.order.items
+            self.new.levels.items self.new.order.items) }
     {
         if self.levels[to as usize] == 0 {
             self.levels[to as usize] = level + 1;

@@ -218,10 +218,10 @@ fn leads(
     to: FunctionRef,
     path: &[Edge],
 ) -> Result<(), Fail> {
-    let reached = reached(alloc, functions, edges, entry)?;
-    assert!(rt; reached.has(to));
-    match reached.path(alloc, to)? {
-        Some(found) => assert_eq!(rt; found.as_slice(), path),
+    let found = reach_of(alloc, functions, edges, entry)?;
+    assert!(rt; found.has(to));
+    match found.path(alloc, to)? {
+        Some(edges) => assert_eq!(rt; edges.as_slice(), path),
         None => assert!(rt; false),
     }
     Ok(())
@@ -235,9 +235,9 @@ fn leads_nowhere(
     entry: u32,
     to: FunctionRef,
 ) -> Result<(), Fail> {
-    let reached = reached(alloc, functions, edges, entry)?;
-    assert!(rt; !reached.has(to));
-    assert!(rt; reached.path(alloc, to)?.is_none());
+    let found = reach_of(alloc, functions, edges, entry)?;
+    assert!(rt; !found.has(to));
+    assert!(rt; found.path(alloc, to)?.is_none());
     Ok(())
 }
 
@@ -249,13 +249,13 @@ fn counts(
     entry: u32,
     count: u32,
 ) -> Result<(), Fail> {
-    let reached = reached(alloc, functions, edges, entry)?;
-    assert_eq!(rt; reached.count(), count);
+    let found = reach_of(alloc, functions, edges, entry)?;
+    assert_eq!(rt; found.count(), count);
     Ok(())
 }
 
 // What `reach` answers, where its conditions hold.
-fn reached(alloc: Global, functions: &[u32], edges: &[Edge], entry: u32) -> Result<Reach, Fail> {
+fn reach_of(alloc: Global, functions: &[u32], edges: &[Edge], entry: u32) -> Result<Reach, Fail> {
     if !ascend(edges) {
         return Err("the edges aren't in order".into());
     }
