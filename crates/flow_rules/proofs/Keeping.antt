@@ -179,24 +179,14 @@ module _ (tree : Tree) (h : IsInText (ABody tree.body)) where
 
   held : (m : Node) (holder : ℕ) → In m → holder < N → holder_in known m holder < N
   held (AFunction f) holder a lt = number_below f a
-  held (AnExpr x) holder a lt = lt
-  held (APattern x) holder a lt = lt
-  held (AStmt x) holder a lt = lt
-  held (ASlot x) holder a lt = lt
-  held (ATail head before t) holder a lt = lt
-  held (ABody b) holder a lt = lt
+  held _ holder a lt = lt
 
   around_held : (m : Node) (around : Around) → In m → around.holder < N → (around_in (numbering_of tree) m around).holder < N
   around_held m around a lt = by (scope_in m) (numbered m a)
     where
       numbered : (k : Node) → In k → number_in (numbering_of tree) k around.holder < N
       numbered (AFunction f) b = number_below f b
-      numbered (AnExpr x) b = lt
-      numbered (APattern x) b = lt
-      numbered (AStmt x) b = lt
-      numbered (ASlot x) b = lt
-      numbered (ATail head before t) b = lt
-      numbered (ABody x) b = lt
+      numbered _ b = lt
 
       by : (o : Option Scope) → number_in (numbering_of tree) m around.holder < N → (around_with o (number_in (numbering_of tree) m around.holder) around).holder < N
       by None b = lt
@@ -206,10 +196,7 @@ module _ (tree : Tree) (h : IsInText (ABody tree.body)) where
   own_below (AnExpr x) around a lt = names_below (around_in (numbering_of tree) (AnExpr x) around) (around_held (AnExpr x) around a lt) (tokens_in_expr (out-Expr x))
   own_below (APattern x) around a lt = names_below around lt (tokens_in_pattern (out-Pattern x))
   own_below (AStmt x) around a lt = names_below around lt (declared_by_stmt (out-Stmt x))
-  own_below (AFunction f) around a lt = tt
-  own_below (ASlot x) around a lt = tt
-  own_below (ATail head before t) around a lt = tt
-  own_below (ABody b) around a lt = tt
+  own_below _ around a lt = tt
 
   meaning_below : (xs : List BoundName) → AllByRecursion IsNameBelow xs → (start : ℕ) → IsBoundBelow (meaning xs start)
   meaning_below [] a start = tt
@@ -303,12 +290,7 @@ module _ (tree : Tree) (h : IsInText (ABody tree.body)) where
     where
       by_node : (n : Node) → AllByRecursion Valued (parts n) → Valued n
       by_node (AnExpr y) v = λ i. subst Any (sym (folded_is (value_step facts) (AnExpr y))) (valued_by (out-Expr y) v (at_parts At (AnExpr y) i) (tokens_at (AnExpr y) i))
-      by_node (AFunction f) v = tt
-      by_node (APattern y) v = tt
-      by_node (AStmt y) v = tt
-      by_node (ASlot y) v = tt
-      by_node (ATail head before t) v = tt
-      by_node (ABody b) v = tt
+      by_node _ v = tt
 
   values_there : (xs : List Expr) → AllByRecursion In (map AnExpr xs) → AllByRecursion Any (map (value facts) xs)
   values_there [] i = tt
@@ -454,12 +436,7 @@ module _ (tree : Tree) (h : IsInText (ABody tree.body)) where
       by : (z : Bool) → AllByRecursion (IsSite c) (if z then [] else call_sites k (last_member before) a.open.start (length (items_in a.items)))
       by true = tt
       by false = sites_held N k lt (last_member before) a.open.start (length (items_in a.items))
-  sites_kept (AnExpr x) k i lt = tt
-  sites_kept (AFunction f) k i lt = tt
-  sites_kept (APattern x) k i lt = tt
-  sites_kept (AStmt x) k i lt = tt
-  sites_kept (ASlot x) k i lt = tt
-  sites_kept (ABody b) k i lt = tt
+  sites_kept _ k i lt = tt
 
   between_short : (text : List ℕ) → IsShort text → IsShort (between_quotes text)
   between_short text s = let a = length-take-le (length text - 2) (drop 1 text) in let b = length-drop 1 text in omega (arith, s, a, b)
@@ -489,12 +466,7 @@ module _ (tree : Tree) (h : IsInText (ABody tree.body)) where
   requires_kept (ATail head before (tail.Member dot name)) k i lt = tt
   requires_kept (ATail head before (tail.Call a)) k i lt =
       pick_some (IsRequire c) (is_require_alone known head before) (call_requires a.open.start k (first_string (items_in a.items))) (first_short (items_in a.items) (at_parts At (ATail head before (tail.Call a)) i) a.open.start k lt)
-  requires_kept (AnExpr x) k i lt = tt
-  requires_kept (AFunction f) k i lt = tt
-  requires_kept (APattern x) k i lt = tt
-  requires_kept (AStmt x) k i lt = tt
-  requires_kept (ASlot x) k i lt = tt
-  requires_kept (ABody b) k i lt = tt
+  requires_kept _ k i lt = tt
 
   anonymous_short : IsShort anonymous
   anonymous_short = omega arith
@@ -532,11 +504,7 @@ module _ (tree : Tree) (h : IsInText (ABody tree.body)) where
       by (Expr-F.Literal t) j = anonymous_short
       by (Expr-F.«Expr::Name» t) j = anonymous_short
   given_short (ASlot x) given i g = target_short (out-Slot x).target (at_parts At (ASlot x) i).0
-  given_short (AFunction f) given i g = anonymous_short
-  given_short (APattern x) given i g = anonymous_short
-  given_short (AStmt x) given i g = anonymous_short
-  given_short (ATail head before t) given i g = anonymous_short
-  given_short (ABody b) given i g = anonymous_short
+  given_short _ given i g = anonymous_short
 
   function_short : (l : FunctionLayer) (given : List ℕ) → AllByRecursion IsOfText (function_tokens l) → IsShort given → IsShort (name_of (name_in l) given)
   function_short (Function-F.Keyword word name params rest) given s g = by name s.1
@@ -547,12 +515,7 @@ module _ (tree : Tree) (h : IsInText (ABody tree.body)) where
 
   functions_kept : (n : Node) (given : List ℕ) → In n → IsShort given → AllByRecursion IsFunction (own_functions n given)
   functions_kept (AFunction f) given i g = (function_short (out-Function f) given (tokens_at (AFunction f) i) g, tt)
-  functions_kept (AnExpr x) given i g = tt
-  functions_kept (APattern x) given i g = tt
-  functions_kept (AStmt x) given i g = tt
-  functions_kept (ASlot x) given i g = tt
-  functions_kept (ATail head before t) given i g = tt
-  functions_kept (ABody b) given i g = tt
+  functions_kept _ given i g = tt
 
   -- WHAT IS THERE IS THERE IN ORDER
 

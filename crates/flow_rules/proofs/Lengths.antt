@@ -56,12 +56,7 @@ sites_paid known (ATail head before (tail.Call a)) c =
     let b = calls_few c (last_member before) a.open.start (length items) in
     let d = either 2 (is_require_alone known head before && is_some (first_string items)) [] (call_sites c (last_member before) a.open.start (length items)) (omega arith) b in
     omega (arith, d)
-sites_paid known (AnExpr x) c = omega arith
-sites_paid known (AFunction f) c = omega arith
-sites_paid known (APattern x) c = omega arith
-sites_paid known (AStmt x) c = omega arith
-sites_paid known (ASlot x) c = omega arith
-sites_paid known (ABody body) c = omega arith
+sites_paid known _ c = omega arith
 
 -- REQUIRES
 
@@ -75,12 +70,7 @@ requires_paid known (ATail head before (tail.Call a)) c =
     let made = call_requires a.open.start c (first_string (items_in a.items)) in
     let d = either 1 (is_require_alone known head before) made [] (require_few a.open.start c (first_string (items_in a.items))) (omega arith) in
     omega (arith, d)
-requires_paid known (AnExpr x) c = omega arith
-requires_paid known (AFunction f) c = omega arith
-requires_paid known (APattern x) c = omega arith
-requires_paid known (AStmt x) c = omega arith
-requires_paid known (ASlot x) c = omega arith
-requires_paid known (ABody body) c = omega arith
+requires_paid known _ c = omega arith
 
 -- NOTES
 
@@ -118,9 +108,7 @@ notes_paid known (ATail head before (tail.Call a)) c =
 notes_paid known (AnExpr x) c = let a = expr_noted known (out-Expr x) c in omega (arith, a)
 notes_paid known (AFunction f) c = omega arith
 notes_paid known (APattern x) c = let a = pattern_noted known (out-Pattern x) c in omega (arith, a)
-notes_paid known (AStmt x) c = omega arith
-notes_paid known (ASlot x) c = omega arith
-notes_paid known (ABody body) c = omega arith
+notes_paid known _ c = omega arith
 
 -- NUMBERED EXPRESSIONS
 
@@ -150,11 +138,7 @@ numbered_paid : (n : Node) (c : Unit {0}) → length (own_numbered n c) + spare_
 numbered_paid (AnExpr x) c = let a = expr_numbered (out-Expr x) in omega (arith, a)
 numbered_paid (ATail head before (tail.Member dot name)) c = omega arith
 numbered_paid (ATail head before (tail.Call a)) c = omega arith
-numbered_paid (AFunction f) c = omega arith
-numbered_paid (APattern x) c = omega arith
-numbered_paid (AStmt x) c = omega arith
-numbered_paid (ASlot x) c = omega arith
-numbered_paid (ABody body) c = omega arith
+numbered_paid _ c = omega arith
 
 pub few_numbered : (tree : Tree) → IsInText (ABody tree.body) → length (numbered_of tree) < 4294967296
 few_numbered tree h = let few = h.few in let a = paid own_numbered (λ n u. Some u) spare_call numbered_paid (ABody tree.body) tt in omega (arith, few, a)

@@ -125,12 +125,7 @@ own_once known offset part (ATail head before (tail.Call a)) c = by (is_require_
     by : (z : Bool) → count_by (is_at offset part) (if z then [] else call_sites c (last_member before) a.open.start (length (items_in a.items))) ≤ count_by (λ (t : Token). t.start == offset) (a.open ∷ [])
     by true = omega arith
     by false = let d = calls_once offset part c (last_member before) a.open.start (length (items_in a.items)) in let e = count_cons (λ (t : Token). t.start == offset) a.open [] in omega (arith, d, e)
-own_once known offset part (AnExpr x) c = omega arith
-own_once known offset part (AFunction f) c = omega arith
-own_once known offset part (APattern x) c = omega arith
-own_once known offset part (AStmt x) c = omega arith
-own_once known offset part (ASlot x) c = omega arith
-own_once known offset part (ABody body) c = omega arith
+own_once known offset part _ c = omega arith
 
 pub nat_same : (a b : ℕ) → a ≡ b → nat_eq a b ≡ true
 nat_same a b e = grind (arith, nat_tests, e)

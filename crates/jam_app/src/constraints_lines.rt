@@ -16,6 +16,18 @@ pub(crate) fn lines_of(alloc: Global, made: &Constraints) -> Result<String, Allo
     Ok(out)
 }
 
+/// The lines of these functions and sites alone.
+pub(crate) fn first_lines(
+    alloc: Global,
+    functions: &[FunctionInfo],
+    sites: &[SiteInfo],
+) -> Result<String, AllocError> {
+    let mut out = String::new(alloc);
+    push_functions(&mut out, functions)?;
+    push_sites(&mut out, sites)?;
+    Ok(out)
+}
+
 // Ends the line of a list, which an empty one doesn't have.
 fn end_line(out: &mut String, is_empty: bool) -> Result<(), AllocError> {
     if is_empty {

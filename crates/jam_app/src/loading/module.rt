@@ -5,6 +5,7 @@ ghost use Rattle.std.specs.Option.{option_to_list};
 ghost use Rattle.jam_base.specs.Files.{Files};
 ghost use Rattle.flow_rules.specs.Flows.{constraints_of};
 ghost use Rattle.jam_app.specs.Loading.{IsAnalysed};
+ghost use Rattle.js_tree.specs.Spells.{SpellsSome};
 ghost use Rattle.jam_app.specs.Reading as reading;
 ghost use Rattle.jam_app.specs.Reading.{HasBad, IsParsed, IsRead, IsRefusedFor, source_of};
 ghost use Rattle.jam_app.specs.Stops.{CountsFaults, Gives, HasStopCause, StopsFor};
@@ -76,6 +77,7 @@ fn targets_of<F: Folder>(
 
 // What a tree says of the values of its module.
 fn constraints_in(alloc: Global, tree: &Tree) -> Result<Constraints, OutOfMemory>
+    requires { SpellsSome tree.now }
     ensures { IfOk result (λ made. made ≡ constraints_of tree.now) }
 {
     let bindings = bind(alloc, tree)?;
