@@ -1,16 +1,15 @@
 -- The token that stands next, by either reading of `/` and `}`.
-use Rattle.std.proofs.Common.{◌≡◌, ℕ, zero, suc, ◌+◌, ◌-◌, ◌<◌, ◌≤◌, ◌==◌, ◌&&◌, ◌||◌, not, nat_lt, ⊎_elim, ◌⊎◌, inl, inr, Bool, true, false, List, [], ◌∷◌, length, take, drop, get_or, refl, sym, ap, ◌∙◌, subst, arith, true≢false, if◌then◌else◌}
-use Rattle.std.proofs.lemmas.Bool.Decides.{nat_tests}
+use Rattle.std.proofs.Common.{◌≡◌, ℕ, zero, suc, ◌+◌, ◌<◌, ◌≤◌, ◌==◌, ◌&&◌, ◌||◌, not, ⊎_elim, ◌⊎◌, inl, inr, Bool, true, false, List, [], ◌∷◌, length, take, drop, get_or, refl, sym, ap, ◌∙◌, subst, arith, true≢false, if◌then◌else◌}
 use Rattle.std.proofs.lemmas.List.{length-take-le, get_or-take}
 use Rattle.std.proofs.lemmas.Slice.Eq.{bytes_eq-Decides}
 use Rattle.std.specs.List.{list_any, list_all, fold}
 use Rattle.std.specs.Str.{bytes_eq}
-use Rattle.js_tree.specs.Lexical.{Stands, Reaches, IsTrivia, IsCut, Next, has_line_end, is_fresh}
+use Rattle.js_tree.specs.Lexical.{Stands, Reaches, IsTrivia, Next, has_line_end, is_fresh}
 use Rattle.js_tree.specs.Lexical.Mark.{marks, is_mark}
 use Rattle.js_tree.specs.Lexical.Template as template
-use Rattle.js_tree.specs.Lexing.{Longest, Place, ahead, is_word, place_in, words}
+use Rattle.js_tree.specs.Lexing.{Place, ahead, place_in, words}
 use Rattle.js_tree.specs.Pieces.{kind}
-use Rattle.js_tree.specs.TokenKinds.{kind_of, word_kinds, mark_kinds}
+use Rattle.js_tree.specs.TokenKinds.{kind_of, word_kinds}
 use Rattle.js_tree.specs.declared.token.Token.{Token}
 use Rattle.js_tree.specs.declared.token.TokenClass.{TokenClass}
 use Rattle.js_tree.specs.declared.token.TokenClass.TheVariants as class
@@ -21,7 +20,7 @@ use Rattle.js_tokens.proofs.MarkLemmas.{accepted, mark_ascii}
 use Rattle.js_tokens.proofs.SortLemmas.{regex_begins, begins_mark, same_number}
 use Rattle.js_tokens.proofs.TokenLemmas.{sorted, one_token}
 use Rattle.js_tokens.specs.Ahead.{reads, IsTwin}
-use Rattle.js_tokens.specs.Fronts.{admits, StandsFor, sort_of, sort_at}
+use Rattle.js_tokens.specs.Fronts.{admits, StandsFor}
 use Rattle.js_tokens.specs.Marks as marks
 use Rattle.js_tokens.specs.Places.{IsCutFor}
 use Rattle.js_tokens.specs.declared.goal.Goal.{Goal}

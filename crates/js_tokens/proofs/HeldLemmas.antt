@@ -1,5 +1,5 @@
 -- What is held of the next token.
-use Rattle.std.proofs.Common.{◌≡◌, ℕ, zero, suc, ◌+◌, ◌-◌, ◌<◌, ◌≤◌, ◌^◌, ◌&&◌, nat_lt, not, ⊎_elim, ◌⊎◌, inl, inr, Bool, true, false, List, [], ◌∷◌, length, take, drop, get_or, refl, sym, ap, ◌∙◌, subst, arith, true≢false, Result, Ok, Err}
+use Rattle.std.proofs.Common.{◌≡◌, ℕ, zero, suc, ◌+◌, ◌-◌, ◌<◌, ◌≤◌, ◌^◌, ◌&&◌, nat_lt, ⊎_elim, ◌⊎◌, inl, inr, Bool, true, false, List, [], ◌∷◌, length, take, drop, get_or, refl, sym, ap, ◌∙◌, subst, arith, true≢false, Ok, Err}
 use Rattle.std.proofs.lemmas.Bool.{cases_order}
 use Rattle.std.proofs.lemmas.Bool.Decides.{nat_tests}
 use Rattle.std.proofs.lemmas.List.{length-drop}
@@ -16,11 +16,11 @@ use Rattle.js_tree.specs.declared.token.TokenClass.TheVariants as class
 use Rattle.js_tree.specs.declared.token_kind.TokenKind.{TokenKind}
 use Rattle.js_tree.specs.declared.token_kind.TokenKind.TheVariants as kinds
 use Rattle.js_tokens.proofs.FrontLemmas.{one_longest}
-use Rattle.js_tokens.proofs.AheadLemmas.{each, some_size, Twin, twin, one_next, one_line, cut_for, none_at_end, admits_reads}
+use Rattle.js_tokens.proofs.AheadLemmas.{each, some_size, Twin, twin, one_next, cut_for, none_at_end, admits_reads}
 use Rattle.js_tokens.specs.Ahead.{offset_of, reads, IsTwin, IsNextKind, IsNextLine, IsNextFor, NoneFor, IsHeld}
 use Rattle.js_tokens.specs.Fronts.{StandsFor}
 use Rattle.js_tokens.specs.Pieces.{IsNextStart, OnlyRead, Any, Anywhere, Reads}
-use Rattle.js_tokens.specs.Places.{IsRaw, IsCutFor, IsEnd, IsOfCut, IsFault, NoToken, behind}
+use Rattle.js_tokens.specs.Places.{IsRaw, IsCutFor, IsEnd, IsFault, NoToken}
 use Rattle.js_tokens.specs.declared.fault.TokenFault.{TokenFault}
 use Rattle.js_tokens.specs.declared.fault.LexFault.{LexFault}
 use Rattle.js_tokens.specs.declared.fault.LexFault.TheVariants as fault
