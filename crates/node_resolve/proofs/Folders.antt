@@ -1,11 +1,15 @@
 -- The folders above a folder.
-use Rattle.std.proofs.Common.{◌≡◌, ℕ, zero, suc, ◌+◌, ◌-◌, ◌<◌, ◌≤◌, Bool, true, false, List, [], ◌∷◌, ◌++◌, length, take, refl, ap, sym, ◌∙◌, arith, subst, length-append}
+use Rattle.std.proofs.Common.{◌≡◌, Option, Some, None, ℕ, zero, suc, ◌+◌, ◌-◌, ◌<◌, ◌≤◌, Bool, true, false, List, [], ◌∷◌, ◌++◌, length, take, refl, ap, sym, ◌∙◌, arith, subst, length-append}
 use Rattle.std.specs.Prelude.{◌==◌}
+use Rattle.std.specs.Option.{unwrap_or}
 use Rattle.std.specs.List.{join_with_byte}
 use Rattle.std.proofs.lemmas.List.Splits.{join_with_byte-slice_split}
 use Rattle.std.proofs.lemmas.Bool.Decides.{nat_tests}
 use Rattle.jam_base.specs.Path.{parts, parent_of}
-use Rattle.node_resolve.specs.Targets.{upward, upward_within}
+use Rattle.node_resolve.specs.Targets.{folder_above, upward, upward_within}
+
+same_folder : (x y : List ℕ) → Some x ≡ Some y → x ≡ y
+same_folder x y e = ap (λ o. unwrap_or o x) e
 
 -- without its last part a text is shorter, unless it is empty
 joined_shorter : (p : List ℕ) (ps : List (List ℕ)) → 0 < length (join_with_byte 47 (p ∷ ps)) → length (join_with_byte 47 (take (length ps) (p ∷ ps))) < length (join_with_byte 47 (p ∷ ps))
@@ -57,3 +61,25 @@ upward_more [] h = cc
 upward_more (b ∷ folder) h =
     let less : length (parent_of (b ∷ folder)) < length (b ∷ folder) = parent_shorter (b ∷ folder) h in
     rw h (ap (λ v. (b ∷ folder) ∷ v) (enough (length folder) (length (parent_of (b ∷ folder))) (parent_of (b ∷ folder)) (omega arith) (omega arith)))
+
+-- the same, where the code asks for the folder above
+pub upward_last : (folder : List ℕ) → folder_above folder ≡ None → upward folder ≡ folder ∷ []
+upward_last folder h = by (length folder == 0) refl
+  where
+    by : (t : Bool) → (length folder == 0) ≡ t → upward folder ≡ folder ∷ []
+    by true e = upward_root folder e
+    by false e = cc (rw e at h)
+
+pub upward_next : (folder above : List ℕ) → folder_above folder ≡ Some above → upward folder ≡ folder ∷ upward above
+upward_next folder above h = by (length folder == 0) refl
+  where
+    by : (t : Bool) → (length folder == 0) ≡ t → upward folder ≡ folder ∷ upward above
+    by true e = cc (rw e at h)
+    by false e = upward_more folder e ∙ ap (λ (f : List ℕ). folder ∷ upward f) (same_folder _ _ (rw e at h))
+
+pub above_shorter : (folder above : List ℕ) → folder_above folder ≡ Some above → length above < length folder
+above_shorter folder above h = by (length folder == 0) refl
+  where
+    by : (t : Bool) → (length folder == 0) ≡ t → length above < length folder
+    by true e = cc (rw e at h)
+    by false e = subst (λ (f : List ℕ). length f < length folder) (same_folder _ _ (rw e at h)) (parent_shorter folder e)

@@ -9,7 +9,7 @@ use Rattle.serde_json.specs.Data.{Data, null, boolean, number, string, array, ob
 use Rattle.serde_json.specs.Find.{as_array, as_object, as_str, get, get_member}
 use Rattle.serde_json.specs.View.{items_view, view}
 use Rattle.serde_json.specs.declared.value.Value.{Value}
-use Rattle.node_resolve.specs.Exports.{any_refused, condition_pick, conditions_pick, first_path, is_refused, item_picks, list_pick, member_pick, path_in, path_or, pick_of, text_pick, without_path}
+use Rattle.node_resolve.specs.Exports.{any_refused, condition_pick, conditions, conditions_pick, first_path, is_refused, item_picks, list_pick, member_pick, path_in, path_or, pick_of, text_pick, without_path}
 use Rattle.node_resolve.specs.declared.pick.Pick.{Pick}
 use Rattle.node_resolve.specs.declared.pick.Pick.TheVariants.{Path, Nothing, Refused}
 
@@ -48,7 +48,7 @@ member_picked star name no_members = refl
 member_picked star name (member key d ms) = by_order star (slice_cmp nat_cmp name key) d _ _ (member_picked star name ms)
 
 pub pick_object : (star : Option (List ℕ)) (d : Data) → is_some (as_object d) ≡ true
-    → conditions_pick star d (codes "node" ∷ codes "require" ∷ codes "default" ∷ []) ≡ pick_of star d
+    → conditions_pick star d conditions ≡ pick_of star d
 unfolding pick_of member_pick
 pick_object star null e = cc
 pick_object star (boolean b) e = cc

@@ -7,9 +7,9 @@ use Rattle.jam_base.specs.Files.{Files}
 use Rattle.jam_base.specs.Path.{parent_of}
 use Rattle.node_resolve.specs.Manifests.{manifest_at}
 use Rattle.node_resolve.specs.Shapes.{Bare}
-use Rattle.node_resolve.specs.Targets.{installed_in, installed_target, is_modules, scope_of, scope_with, upward}
+use Rattle.node_resolve.specs.Targets.{folder_above, installed_in, installed_target, is_modules, scope_of, scope_with, upward}
 use Rattle.node_resolve.specs.declared.target.Target.{Target}
-use Rattle.node_resolve.proofs.Folders.{upward_more, upward_root}
+use Rattle.node_resolve.proofs.Folders.{upward_last, upward_more, upward_next, upward_root}
 
 -- the folders from here on have what all of them have
 abbrev pub ScopeLeft : Option Files → List ℕ → List ℕ → Type 0
@@ -40,20 +40,20 @@ scope_found now (Some m) at from manifest found fails same is here left =
     let told : found ≡ manifest_at m at = subst (λ (fs : Option Files). IfSome fs (λ k. found ≡ manifest_at k at)) same here in
     sym (sym left ∙ ap (scope_of m) all.1 ∙ scope_step m at all.0 (Some manifest) fails (sym is ∙ told))
 
-pub scope_ended : (now files : Option Files) (at from : List ℕ) (found : Option Data) → is_modules at ≡ false → now ≡ files → found ≡ None → (length at == 0) ≡ true
+pub scope_ended : (now files : Option Files) (at from : List ℕ) (found : Option Data) → is_modules at ≡ false → now ≡ files → found ≡ None → folder_above at ≡ None
     → IfSome now (λ m. found ≡ manifest_at m at) → ScopeLeft files at from → IfSome files (λ m. None ≡ scope_of m (upward from))
 unfolding scope_of
 scope_ended now None at from found fails same is root here left = tt
 scope_ended now (Some m) at from found fails same is root here left =
     let told : found ≡ manifest_at m at = subst (λ (fs : Option Files). IfSome fs (λ k. found ≡ manifest_at k at)) same here in
-    sym (sym left ∙ ap (scope_of m) (upward_root at root) ∙ scope_step m at [] None fails (sym is ∙ told))
+    sym (sym left ∙ ap (scope_of m) (upward_last at root) ∙ scope_step m at [] None fails (sym is ∙ told))
 
-pub scope_above : (now files : Option Files) (at from above : List ℕ) (found : Option Data) → is_modules at ≡ false → now ≡ files → found ≡ None → (length at == 0) ≡ false → above ≡ parent_of at
+pub scope_above : (now files : Option Files) (at from above : List ℕ) (found : Option Data) → is_modules at ≡ false → now ≡ files → found ≡ None → folder_above at ≡ Some above
     → IfSome now (λ m. found ≡ manifest_at m at) → ScopeLeft files at from → ScopeLeft files above from
-scope_above now None at from above found fails same is more up here left = tt
-scope_above now (Some m) at from above found fails same is more up here left =
+scope_above now None at from above found fails same is up here left = tt
+scope_above now (Some m) at from above found fails same is up here left =
     let told : found ≡ manifest_at m at = subst (λ (fs : Option Files). IfSome fs (λ k. found ≡ manifest_at k at)) same here in
-    ap (λ (f : List ℕ). scope_of m (upward f)) up ∙ sym (ap (scope_of m) (upward_more at more) ∙ scope_step m at (upward (parent_of at)) None fails (sym is ∙ told)) ∙ left
+    sym (ap (scope_of m) (upward_next at above up) ∙ scope_step m at (upward above) None fails (sym is ∙ told)) ∙ left
 
 abbrev pub InstalledLeft : Option Files → Bare → List ℕ → List ℕ → Type 0
 InstalledLeft files bare at from = IfSome files (λ m. installed_target m bare (upward at) ≡ installed_target m bare (upward from))
@@ -70,17 +70,17 @@ installed_found now (Some m) bare at from target found same is here left =
     let told : found ≡ installed_in m bare at = subst (λ (fs : Option Files). IfSome fs (λ k. found ≡ installed_in k bare at)) same here in
     sym (sym left ∙ ap (installed_target m bare) all.1 ∙ installed_step m bare at all.0 (Some target) (sym is ∙ told))
 
-pub installed_ended : (now files : Option Files) (bare : Bare) (at from : List ℕ) (found : Option Target) → now ≡ files → found ≡ None → (length at == 0) ≡ true
+pub installed_ended : (now files : Option Files) (bare : Bare) (at from : List ℕ) (found : Option Target) → now ≡ files → found ≡ None → folder_above at ≡ None
     → IfSome now (λ m. found ≡ installed_in m bare at) → InstalledLeft files bare at from → IfSome files (λ m. None ≡ installed_target m bare (upward from))
 unfolding installed_target
 installed_ended now None bare at from found same is root here left = tt
 installed_ended now (Some m) bare at from found same is root here left =
     let told : found ≡ installed_in m bare at = subst (λ (fs : Option Files). IfSome fs (λ k. found ≡ installed_in k bare at)) same here in
-    sym (sym left ∙ ap (installed_target m bare) (upward_root at root) ∙ installed_step m bare at [] None (sym is ∙ told))
+    sym (sym left ∙ ap (installed_target m bare) (upward_last at root) ∙ installed_step m bare at [] None (sym is ∙ told))
 
-pub installed_above : (now files : Option Files) (bare : Bare) (at from above : List ℕ) (found : Option Target) → now ≡ files → found ≡ None → (length at == 0) ≡ false → above ≡ parent_of at
+pub installed_above : (now files : Option Files) (bare : Bare) (at from above : List ℕ) (found : Option Target) → now ≡ files → found ≡ None → folder_above at ≡ Some above
     → IfSome now (λ m. found ≡ installed_in m bare at) → InstalledLeft files bare at from → InstalledLeft files bare above from
-installed_above now None bare at from above found same is more up here left = tt
-installed_above now (Some m) bare at from above found same is more up here left =
+installed_above now None bare at from above found same is up here left = tt
+installed_above now (Some m) bare at from above found same is up here left =
     let told : found ≡ installed_in m bare at = subst (λ (fs : Option Files). IfSome fs (λ k. found ≡ installed_in k bare at)) same here in
-    ap (λ (f : List ℕ). installed_target m bare (upward f)) up ∙ sym (ap (installed_target m bare) (upward_more at more) ∙ installed_step m bare at (upward (parent_of at)) None (sym is ∙ told)) ∙ left
+    sym (ap (installed_target m bare) (upward_next at above up) ∙ installed_step m bare at (upward above) None (sym is ∙ told)) ∙ left

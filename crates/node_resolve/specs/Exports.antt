@@ -164,6 +164,10 @@ path_or (Some text) other = Path text
 abbrev pub list_pick : List Pick → Pick
 list_pick picks = path_or (first_path picks) (without_path (length picks == 0 || any_refused picks))
 
+-- the conditions that hold for a require, in the order in which they are tried
+abbrev pub conditions : List (List ℕ)
+conditions = codes "node" ∷ codes "require" ∷ codes "default" ∷ []
+
 -- what a value gives, with what the `*` stands for: a text a path; an object what the first of its members `node`, `require` and
 -- `default` gives that is there and doesn't give nothing; an array what its first item gives that gives a path
 unfoldable mutual

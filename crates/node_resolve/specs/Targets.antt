@@ -33,6 +33,10 @@ exported_target files bare folder manifest = option_map (λ e. picked_target fil
 
 -- ---- the folders above a module
 
+-- the folder above a folder; the application folder has none
+abbrev pub folder_above : List ℕ → Option (List ℕ)
+folder_above folder = if length folder == 0 then None else Some (parent_of folder)
+
 -- a folder and the folders above it up to the application folder, innermost first; at most `most` above it are told
 abbrev pub upward_within : ℕ → List ℕ → List (List ℕ)
 upward_within zero folder = folder ∷ []

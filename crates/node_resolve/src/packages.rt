@@ -12,7 +12,7 @@ use crate::pick::Pick;
 use crate::search::{file_target_at, found_at, is_root};
 use crate::shape::{is_directory_like, is_modules};
 use crate::{ResolveFault, Target};
-use jam_base::{Folder, ModulePath};
+use jam_base::{Folder, ModulePath, OutOfMemory};
 use serde_json::Value;
 use std::alloc::Global;
 
@@ -56,6 +56,16 @@ fn exported_target<F: Folder>(
     Ok(Some(target))
 }
 
+// The folder above a folder. The application folder has none.
+fn folder_above(alloc: Global, at: &ModulePath) -> Result<Option<ModulePath>, OutOfMemory>
+    ensures { IfOk result (λ found. found ≡ targets.folder_above at.now) }
+{
+    if is_root(at) {
+        return Ok(None);
+    }
+    Ok(Some(at.parent(alloc)?))
+}
+
 // The folder of the package that a folder belongs to, and its package.json.
 fn scope_of<F: Folder>(
     alloc: Global,
@@ -75,10 +85,10 @@ fn scope_of<F: Folder>(
         if let Some(manifest) = manifest_at(alloc, folder, &at)? {
             return Ok(Some((at, manifest)));
         }
-        if is_root(&at) {
-            return Ok(None);
+        match folder_above(alloc, &at)? {
+            None => return Ok(None),
+            Some(above) => at = above,
         }
-        at = at.parent(alloc)?;
     }
 }
 
@@ -217,10 +227,10 @@ fn installed_target<F: Folder>(
         if let Some(target) = installed_in(alloc, folder, bare, &at)? {
             return Ok(Some(target));
         }
-        if is_root(&at) {
-            return Ok(None);
+        match folder_above(alloc, &at)? {
+            None => return Ok(None),
+            Some(above) => at = above,
         }
-        at = at.parent(alloc)?;
     }
 }
 

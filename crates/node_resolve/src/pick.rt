@@ -98,6 +98,13 @@ fn text_pick(alloc: Global, text: &str, star: Option<&str>) -> Result<Pick, OutO
     Ok(Pick::Path(replaced(alloc, text, star)?))
 }
 
+// The conditions that hold for a require, in the order in which they are tried.
+fn conditions() -> &'static [&'static str]
+    ensures { each (λ c. c.now) result.now ≡ exports.conditions }
+{
+    &["node", "require", "default"]
+}
+
 // The pick, unless it is nothing.
 fn decided(pick: Pick) -> Option<Pick>
     ensures { result ≡ exports.decided pick }
@@ -123,7 +130,7 @@ pub(crate) fn pick_of(alloc: Global, value: &Value, star: Option<&str>) -> Resul
         return items_pick(alloc, items.as_slice(), star);
     }
     if value.is_object() {
-        return conditions_pick(alloc, value, &["node", "require", "default"], star);
+        return conditions_pick(alloc, value, conditions(), star);
     }
     Ok(Pick::Refused)
 }

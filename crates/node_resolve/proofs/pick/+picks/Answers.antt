@@ -4,7 +4,7 @@ use Rattle.serde_json.specs.Find.{as_array, as_str}
 use Rattle.serde_json.specs.View.{items_view, view}
 use Rattle.serde_json.specs.declared.value.Value.{Value}
 use Rattle.jam_base.proofs.Joined.{next_part, texts}
-use Rattle.node_resolve.specs.Exports.{item_picks, list_pick, path_in}
+use Rattle.node_resolve.specs.Exports.{conditions_pick}
 use Rattle.node_resolve.specs.declared.pick.Pick.{Pick}
 use Rattle.node_resolve.proofs.Picks as picks
 use Rattle.node_resolve.proofs.Picks.{star_of}
@@ -65,7 +65,8 @@ pick_of-returns-in-Some-as_array t c =
 
 pub pick_of-returns-then-is_object : goal.pick_of-returns-then-is_object
 pick_of-returns-then-is_object t c =
-    subst (λ (p : Pick). IfOk c.conditions_pick.result (λ x. x ≡ p)) (picks.pick_object (star_of c.args.star) (view c.args.value.now) (sym c.is_object.ensures ∙ c.if-is_object.true)) c.conditions_pick.ensures
+    subst (λ (p : Pick). IfOk c.conditions_pick.result (λ x. x ≡ p))
+    (ap (conditions_pick (star_of c.args.star) (view c.args.value.now)) c.conditions.ensures ∙ picks.pick_object (star_of c.args.star) (view c.args.value.now) (sym c.is_object.ensures ∙ c.if-is_object.true)) c.conditions_pick.ensures
 
 pub pick_of-returns : goal.pick_of-returns
 pick_of-returns t c =
