@@ -1,6 +1,6 @@
 -- Texts cut and joined.
-use Rattle.std.proofs.Common.{◌≡◌, ℕ, ◌-◌, ◌+◌, Bor, Bool, true, false, List, [], ◌∷◌, ◌++◌, Option, Some, None, length, take, drop, map, cond, refl, ap, sym, ◌∙◌, arith, MatchOption, ◌≤◌, subst}
-use Rattle.std.specs.Prelude.{flat_map, nat_eq}
+use Rattle.std.proofs.Common.{◌≡◌, ℕ, ◌-◌, Bor, true, false, List, [], ◌∷◌, ◌++◌, Option, Some, None, length, take, drop, map, refl, ap, sym, ◌∙◌, arith, MatchOption, ◌≤◌, subst}
+use Rattle.std.specs.Prelude.{nat_eq}
 use Rattle.std.specs.List.{join_by, starts_with, ends_with}
 use Rattle.std.specs.Option.{option_map}
 use Rattle.std.specs.Str.Pattern.{FindsTextPrefix, FindsTextSuffix, StripsPrefix, StripsSuffix}

@@ -1,6 +1,6 @@
 -- What the `exports` of a package give for a path inside it (the Node.js manual, "Modules: Packages", "Package entry points",
 -- and the functions PACKAGE_EXPORTS_RESOLVE and PACKAGE_TARGET_RESOLVE of "Modules: ECMAScript modules").
-use Rattle.std.specs.Prelude.{ℕ, ◌+◌, ◌-◌, Bool, true, false, not, List, [], ◌∷◌, length, take, drop, ◌&&◌, ◌||◌, ◌==◌, nat_eq, nat_lt, map, Option, Some, None, if◌then◌else◌, codes}
+use Rattle.std.specs.Prelude.{ℕ, ◌-◌, Bool, true, false, not, List, [], ◌∷◌, length, take, drop, ◌&&◌, ◌||◌, ◌==◌, nat_eq, nat_lt, Option, Some, None, if◌then◌else◌, codes}
 use Rattle.std.specs.List.{starts_with, ends_with, slice_split, join_by}
 use Rattle.std.specs.Option.{option_and_then, option_map, option_or, unwrap_or}
 use Rattle.std.specs.Str.{bytes_eq}

@@ -1,5 +1,5 @@
 -- What a package.json says (the Node.js manual, "Modules: Packages"; the npm manual, "package.json").
-use Rattle.std.specs.Prelude.{◌≡◌, ℕ, Bool, List, [], ◌∷◌, Option, Some, None, if◌then◌else◌, codes}
+use Rattle.std.specs.Prelude.{ℕ, List, [], ◌∷◌, Option, Some, None, if◌then◌else◌, codes}
 use Rattle.std.specs.Option.{option_and_then, is_some}
 use Rattle.std.specs.FinMap as map
 use Rattle.serde_json.specs.Data.{Data}

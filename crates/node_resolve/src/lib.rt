@@ -9,6 +9,8 @@ mod exports;
 mod fault;
 mod manifest;
 mod names;
+#[cfg(test)]
+mod package_tests;
 mod packages;
 mod pick;
 mod search;

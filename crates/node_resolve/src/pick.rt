@@ -193,7 +193,11 @@ fn is_refused(before: bool, pick: &Pick) -> bool
 fn without_path(refused: bool) -> Pick
     ensures { result ≡ exports.without_path refused }
 {
-    if refused { Pick::Refused } else { Pick::Nothing }
+    if refused {
+        Pick::Refused
+    } else {
+        Pick::Nothing
+    }
 }
 
 // The first path that an item gives, else nothing where there are items and each gives nothing.

@@ -1,6 +1,6 @@
-use Rattle.std.proofs.Common.{◌≡◌, ◌+◌, ◌<◌, ℕ, List, Bor, Option, Some, None, [], length, drop, subst, arith, sym, ap, refl, ◌∙◌, IfOk}
+use Rattle.std.proofs.Common.{◌≡◌, ◌+◌, ℕ, List, Bor, Some, [], drop, subst, arith, sym, ap, ◌∙◌, IfOk}
 use Rattle.std.specs.Option.{option_map}
-use Rattle.serde_json.specs.Find.{as_array, as_str}
+use Rattle.serde_json.specs.Find.{as_array}
 use Rattle.serde_json.specs.View.{items_view, view}
 use Rattle.serde_json.specs.declared.value.Value.{Value}
 use Rattle.jam_base.proofs.Joined.{next_part, texts}
@@ -50,7 +50,6 @@ items_pick-returns t c = c.without_path.ensures ∙ picks.items_ended (star_of c
 pub pick_of-returns-in-Some : goal.pick_of-returns-in-Some
 pick_of-returns-in-Some t c =
     subst (λ (p : Pick). IfOk c.text_pick.result (λ x. x ≡ p)) (picks.pick_text (star_of c.args.star) (view c.args.value.now) c.in-Some.text.now (sym c.as_str.ensures ∙ ap (option_map (λ (s : Bor (List ℕ)). s.now)) c.in-Some.is)) c.text_pick.ensures
-
 
 pub pick_of-items_pick-requires : goal.pick_of-items_pick-requires
 pick_of-items_pick-requires t c =

@@ -1,6 +1,5 @@
 use Rattle.std.proofs.Common.{◌≡◌, ◌+◌, ◌*◌, drop}
 use Rattle.std.proofs.Common.{map as each}
-use Rattle.std.specs.Option.{option_map}
 use Rattle.serde_json.specs.Data.{depth, items_depth}
 use Rattle.serde_json.specs.View.{items_view, view}
 use Rattle.node_resolve.specs.Exports.{conditions_pick, item_picks, list_pick}
