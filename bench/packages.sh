@@ -23,7 +23,7 @@ def manifest(number):
     return json.dumps({"name": f"p{number}", "version": "1.0.0", "main": "./lib/index", "scripts": scripts, "devDependencies": others}, indent=2)
 
 def module(requires):
-    return "".join(f'var v{i} = require("{text}");\nv{i}.run();\n' for i, text in enumerate(requires)) + "exports.run = function () { };\n"
+    return "".join(f'require("{text}");\n' for text in requires) + f"exports.run{len(requires)} = function () {{ }};\n"
 
 packages = 150
 write("package.json", manifest(9999))
@@ -35,7 +35,7 @@ for i in range(packages):
     write(f"node_modules/p{i}/package.json", manifest(i))
     write(f"node_modules/p{i}/lib/index.js", module(["./a", "./b"] + [f"../../p{k}" for k in near]))
     write(f"node_modules/p{i}/lib/a.js", module(["./b", "./index"] + [f"../../p{k}" for k in near]))
-    write(f"node_modules/p{i}/lib/b.js", module(["./a", ".."] + [f"../../p{k}" for k in near]))
+    write(f"node_modules/p{i}/lib/b.js", module(["./a", "../"] + [f"../../p{k}" for k in near]))
 modules = requires = 0
 for top, _, files in os.walk("."):
     for name in files:
