@@ -198,3 +198,9 @@ module _ {R S : Type 0} (v : Writer Expr Function Pattern Stmt Slot R) (w : Writ
 
   pub body_keeps : (xs : List Stmt) (r : R) (s : S) → AllByRecursion H (each_of nodes.stmt xs []) → Rel r s → Rel (each_of v.stmt xs r) (each_of w.stmt xs s)
   body_keeps xs r s h e = (each nodes.stmt v.stmt w.stmt (λ x ns r s k. stmt x k) xs (stays r s e)).by h
+
+  pub arguments_keeps : (o : Bracket Expr) (r : R) (s : S) → AllByRecursion H (bracket_row unm nodes.expr o []) → Rel r s → Rel (bracket_row v.marks v.expr o r) (bracket_row w.marks w.expr o s)
+  arguments_keeps o r s h e = (bracket nodes.expr v.expr w.expr (λ x ns r s k. expr x k) o (stays r s e)).by h
+
+  pub params_keeps : (o : Bracket Slot) (r : R) (s : S) → AllByRecursion H (bracket_row unm nodes.slot o []) → Rel r s → Rel (bracket_row v.marks v.slot o r) (bracket_row w.marks w.slot o s)
+  params_keeps o r s h e = (bracket nodes.slot v.slot w.slot (λ x ns r s k. slot x k) o (stays r s e)).by h

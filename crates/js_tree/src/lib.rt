@@ -8,6 +8,7 @@
 mod escape;
 mod level;
 mod line;
+mod line_bracket;
 mod line_list;
 mod lists;
 mod node;

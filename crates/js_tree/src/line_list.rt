@@ -2,15 +2,89 @@
 ghost use Rattle.std.specs.Prelude.{◌≡◌, ◌++◌, ◌∷◌, [], map, OnOk};
 ghost use Rattle.js_tree.specs.Parts.{AnExpr, ASlot};
 ghost use Rattle.js_tree.specs.Line.{AToken, ANode, given_marks, item_of, items, possible, tail_items};
-ghost use Rattle.js_tree.specs.Spelling.Rows.{arm_row, bracket_row, each_of, element_row, init_row, listed_row, maybe, template_row};
+ghost use Rattle.js_tree.specs.Spelling.Rows.{arm_row, bracket_row, each_of, init_row, listed_row, maybe, template_row};
 
 use crate::line::{LineItem, push_node, push_token};
-use crate::lists::{Arm, Block, Bracket, Element, Further, Init, Listed, Tail, Template};
+use crate::line_bracket::{push_arguments, push_params};
+use crate::lists::{Arm, Block, Bracket, Further, Init, Listed, Tail, Template};
 use crate::node::Node;
 use crate::token::Token;
 use crate::tree::{Expr, Slot, Stmt};
 use jam_base::OutOfMemory;
 use sqlite_items::Boxed;
+
+// Adds what `new` makes.
+pub fn push_new<'t>(
+    word: &'t Token,
+    head: &'t Expr,
+    tails: &'t [Tail<Boxed<Expr>>],
+    args: &'t Option<Boxed<Bracket<Boxed<Expr>>>>,
+    out: &mut Vec<LineItem<'t>>,
+) -> Result<(), OutOfMemory>
+    ensures { OnOk result (map item_of out.new.items ≡ map item_of out.old.items ++ AToken word.now ∷ ANode (AnExpr head.now) ∷ tail_items head.now [] tails.now (maybe (bracket_row given_marks items.expr) args.now [])) }
+{
+    push_token(word, out)?;
+    push_chain(head, tails, out)?;
+    push_arguments(args, out)
+}
+
+// Adds a choice.
+pub fn push_choice<'t>(
+    arms: &'t [Arm<Boxed<Expr>>],
+    last: &'t Expr,
+    out: &mut Vec<LineItem<'t>>,
+) -> Result<(), OutOfMemory>
+    ensures { OnOk result (map item_of out.new.items ≡ map item_of out.old.items ++ each_of (arm_row given_marks items.expr) arms.now (ANode (AnExpr last.now) ∷ [])) }
+{
+    push_arms(arms, out)?;
+    push_node(Node::Expr(last), out)
+}
+
+// Adds a function.
+pub fn push_keyword<'t>(
+    word: &'t Token,
+    name: &'t Option<Token>,
+    params: &'t Bracket<Slot>,
+    body: &'t Block<Stmt>,
+    out: &mut Vec<LineItem<'t>>,
+) -> Result<(), OutOfMemory>
+    ensures { OnOk result (map item_of out.new.items ≡ map item_of out.old.items ++ AToken word.now ∷ possible name.now (bracket_row given_marks items.slot params.now (AToken body.now.begin ∷ each_of items.stmt body.now.body (AToken body.now.end ∷ [])))) }
+{
+    push_token(word, out)?;
+    push_possible(name, out)?;
+    push_params(params, out)?;
+    push_block(body, out)
+}
+
+// Adds a declaration.
+pub fn push_vars<'t>(
+    word: &'t Token,
+    first: &'t Slot,
+    rest: &'t [Further<Slot>],
+    semi: &'t Option<Token>,
+    out: &mut Vec<LineItem<'t>>,
+) -> Result<(), OutOfMemory>
+    ensures { OnOk result (map item_of out.new.items ≡ map item_of out.old.items ++ AToken word.now ∷ ANode (ASlot first.now) ∷ each_of (λ x more. AToken x.mark ∷ ANode (ASlot x.item) ∷ more) rest.now (possible semi.now [])) }
+{
+    push_token(word, out)?;
+    push_node(Node::Slot(first), out)?;
+    push_further_slots(rest, out)?;
+    push_possible(semi, out)
+}
+
+// Adds the end of a function.
+pub fn push_return<'t>(
+    word: &'t Token,
+    value: &'t Option<Boxed<Expr>>,
+    semi: &'t Option<Token>,
+    out: &mut Vec<LineItem<'t>>,
+) -> Result<(), OutOfMemory>
+    ensures { OnOk result (map item_of out.new.items ≡ map item_of out.old.items ++ AToken word.now ∷ maybe items.expr value.now (possible semi.now [])) }
+{
+    push_token(word, out)?;
+    push_value(value, out)?;
+    push_possible(semi, out)
+}
 
 // Adds a token, where there is one.
 pub fn push_possible<'t>(
@@ -197,137 +271,6 @@ pub fn push_substitution<'t>(
 {
     push_node(Node::Expr(part.item.get()), out)?;
     push_token(&part.mark, out)
-}
-
-// Adds arguments, where there are any.
-pub fn push_arguments<'t>(
-    args: &'t Option<Boxed<Bracket<Boxed<Expr>>>>,
-    out: &mut Vec<LineItem<'t>>,
-) -> Result<(), OutOfMemory>
-    ensures { OnOk result (map item_of out.new.items ≡ map item_of out.old.items ++ maybe (bracket_row given_marks items.expr) args.now []) }
-{
-    match args {
-        None => Ok(()),
-        Some(args) => push_bracket(args.get(), out),
-    }
-}
-
-// Adds items in brackets.
-pub fn push_bracket<'t>(
-    bracket: &'t Bracket<Boxed<Expr>>,
-    out: &mut Vec<LineItem<'t>>,
-) -> Result<(), OutOfMemory>
-    ensures { OnOk result (map item_of out.new.items ≡ map item_of out.old.items ++ bracket_row given_marks items.expr bracket.now []) }
-{
-    push_token(&bracket.open, out)?;
-    push_front(bracket.front.as_slice(), out)?;
-    push_last(&bracket.last, out)?;
-    push_token(&bracket.close, out)
-}
-
-// Adds the items that have a comma behind them.
-pub fn push_front<'t>(
-    front: &'t [Listed<Element<Boxed<Expr>>>],
-    out: &mut Vec<LineItem<'t>>,
-) -> Result<(), OutOfMemory>
-    ensures { OnOk result (map item_of out.new.items ≡ map item_of out.old.items ++ each_of (listed_row given_marks (element_row given_marks items.expr)) front.now []) }
-{
-    for listed in front {
-        push_listed(listed, out)?;
-    }
-    Ok(())
-}
-
-pub fn push_listed<'t>(
-    listed: &'t Listed<Element<Boxed<Expr>>>,
-    out: &mut Vec<LineItem<'t>>,
-) -> Result<(), OutOfMemory>
-    ensures { OnOk result (map item_of out.new.items ≡ map item_of out.old.items ++ listed_row given_marks (element_row given_marks items.expr) listed.now []) }
-{
-    push_element(&listed.item, out)?;
-    push_token(&listed.mark, out)
-}
-
-// Adds the last item, where it has no comma.
-pub fn push_last<'t>(
-    last: &'t Option<Element<Boxed<Expr>>>,
-    out: &mut Vec<LineItem<'t>>,
-) -> Result<(), OutOfMemory>
-    ensures { OnOk result (map item_of out.new.items ≡ map item_of out.old.items ++ maybe (element_row given_marks items.expr) last.now []) }
-{
-    match last {
-        None => Ok(()),
-        Some(last) => push_element(last, out),
-    }
-}
-
-pub fn push_element<'t>(
-    element: &'t Element<Boxed<Expr>>,
-    out: &mut Vec<LineItem<'t>>,
-) -> Result<(), OutOfMemory>
-    ensures { OnOk result (map item_of out.new.items ≡ map item_of out.old.items ++ element_row given_marks items.expr element.now []) }
-{
-    push_possible(&element.dots, out)?;
-    push_node(Node::Expr(element.value.get()), out)
-}
-
-// Adds items in brackets.
-pub fn push_params<'t>(
-    bracket: &'t Bracket<Slot>,
-    out: &mut Vec<LineItem<'t>>,
-) -> Result<(), OutOfMemory>
-    ensures { OnOk result (map item_of out.new.items ≡ map item_of out.old.items ++ bracket_row given_marks items.slot bracket.now []) }
-{
-    push_token(&bracket.open, out)?;
-    push_front_slots(bracket.front.as_slice(), out)?;
-    push_last_slot(&bracket.last, out)?;
-    push_token(&bracket.close, out)
-}
-
-// Adds the items that have a comma behind them.
-pub fn push_front_slots<'t>(
-    front: &'t [Listed<Element<Slot>>],
-    out: &mut Vec<LineItem<'t>>,
-) -> Result<(), OutOfMemory>
-    ensures { OnOk result (map item_of out.new.items ≡ map item_of out.old.items ++ each_of (listed_row given_marks (element_row given_marks items.slot)) front.now []) }
-{
-    for listed in front {
-        push_listed_slot(listed, out)?;
-    }
-    Ok(())
-}
-
-pub fn push_listed_slot<'t>(
-    listed: &'t Listed<Element<Slot>>,
-    out: &mut Vec<LineItem<'t>>,
-) -> Result<(), OutOfMemory>
-    ensures { OnOk result (map item_of out.new.items ≡ map item_of out.old.items ++ listed_row given_marks (element_row given_marks items.slot) listed.now []) }
-{
-    push_element_slot(&listed.item, out)?;
-    push_token(&listed.mark, out)
-}
-
-// Adds the last item, where it has no comma.
-pub fn push_last_slot<'t>(
-    last: &'t Option<Element<Slot>>,
-    out: &mut Vec<LineItem<'t>>,
-) -> Result<(), OutOfMemory>
-    ensures { OnOk result (map item_of out.new.items ≡ map item_of out.old.items ++ maybe (element_row given_marks items.slot) last.now []) }
-{
-    match last {
-        None => Ok(()),
-        Some(last) => push_element_slot(last, out),
-    }
-}
-
-pub fn push_element_slot<'t>(
-    element: &'t Element<Slot>,
-    out: &mut Vec<LineItem<'t>>,
-) -> Result<(), OutOfMemory>
-    ensures { OnOk result (map item_of out.new.items ≡ map item_of out.old.items ++ element_row given_marks items.slot element.now []) }
-{
-    push_possible(&element.dots, out)?;
-    push_node(Node::Slot(&element.value), out)
 }
 
 // Adds statements in braces.

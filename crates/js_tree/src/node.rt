@@ -5,7 +5,7 @@ ghost use Rattle.js_tree.specs.Spelling.Rows.{tail_row};
 ghost use Rattle.js_tree.specs.Spelling.Nodes.{unmarked};
 
 use crate::lists::Tail;
-use crate::node_list::{push_arguments, push_arms, push_bracket, push_chain, push_further_slots, push_params, push_several, push_stmts, push_substitutions, push_value};
+use crate::node_list::{push_bracket, push_chain, push_choice, push_further_slots, push_keyword, push_new, push_several, push_stmts, push_template, push_two, push_value};
 use crate::tree::{Expr, Function, Pattern, Slot, Stmt};
 use jam_base::OutOfMemory;
 use sqlite_items::Boxed;
@@ -62,7 +62,7 @@ fn push_expr_parts<'t>(value: &'t Expr, out: &mut Vec<Node<'t>>) -> Result<(), O
         Expr::Name(_) => Ok(()),
         Expr::This(_) => Ok(()),
         Expr::Literal(_) => Ok(()),
-        Expr::Template(template) => push_substitutions(template.parts.as_slice(), out),
+        Expr::Template(template) => push_template(template, out),
         Expr::Paren {
             open: _,
             inner,
@@ -75,10 +75,7 @@ fn push_expr_parts<'t>(value: &'t Expr, out: &mut Vec<Node<'t>>) -> Result<(), O
             head,
             tails,
             args,
-        } => {
-            push_chain(head.get(), tails.as_slice(), out)?;
-            push_arguments(args, out)
-        }
+        } => push_new(head.get(), tails.as_slice(), args, out),
         Expr::NewTarget {
             word: _,
             dot: _,
@@ -90,27 +87,18 @@ fn push_expr_parts<'t>(value: &'t Expr, out: &mut Vec<Node<'t>>) -> Result<(), O
             base,
             op: _,
             exponent,
-        } => {
-            push(Node::Expr(base.get()), out)?;
-            push(Node::Expr(exponent.get()), out)
-        }
+        } => push_two(Node::Expr(base.get()), Node::Expr(exponent.get()), out),
         Expr::Binary {
             level: _,
             first,
             rest,
         } => push_several(first.get(), rest.as_slice(), out),
-        Expr::Cond { arms, last } => {
-            push_arms(arms.as_slice(), out)?;
-            push(Node::Expr(last.get()), out)
-        }
+        Expr::Cond { arms, last } => push_choice(arms.as_slice(), last.get(), out),
         Expr::Assign {
             target,
             op: _,
             value,
-        } => {
-            push(Node::Pattern(target.get()), out)?;
-            push(Node::Expr(value.get()), out)
-        }
+        } => push_two(Node::Pattern(target.get()), Node::Expr(value.get()), out),
         Expr::Comma { first, rest } => push_several(first.get(), rest.as_slice(), out),
     }
 }
@@ -127,10 +115,7 @@ fn push_function_parts<'t>(
             name: _,
             params,
             body,
-        } => {
-            push_params(params, out)?;
-            push_stmts(body.body.as_slice(), out)
-        }
+        } => push_keyword(params, body.body.as_slice(), out),
     }
 }
 
@@ -195,7 +180,7 @@ fn push_tail_parts<'t>(
             close: _,
         } => push(Node::Expr(value.get()), out),
         Tail::Call(arguments) => push_bracket(arguments, out),
-        Tail::Template(template) => push_substitutions(template.parts.as_slice(), out),
+        Tail::Template(template) => push_template(template, out),
     }
 }
 

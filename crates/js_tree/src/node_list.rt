@@ -1,14 +1,73 @@
 //! The parts of a node that stand in lists, or may be missing.
 ghost use Rattle.std.specs.Prelude.{◌≡◌, ◌++◌, ◌∷◌, [], map, OnOk};
 ghost use Rattle.js_tree.specs.Parts.{AnExpr, ASlot, node_of, nodes, tails_behind};
-ghost use Rattle.js_tree.specs.Spelling.Rows.{each_of, maybe, bracket_row};
+ghost use Rattle.js_tree.specs.Spelling.Rows.{each_of, maybe, bracket_row, template_row};
 ghost use Rattle.js_tree.specs.Spelling.Nodes.{unmarked};
 
-use crate::lists::{Arm, Bracket, Element, Further, Listed, Tail};
+use crate::lists::{Arm, Bracket, Element, Further, Listed, Tail, Template};
 use crate::node::{Node, push};
 use crate::tree::{Expr, Slot, Stmt};
 use jam_base::OutOfMemory;
 use sqlite_items::Boxed;
+
+// Adds two nodes.
+pub fn push_two<'t>(
+    first: Node<'t>,
+    second: Node<'t>,
+    out: &mut Vec<Node<'t>>,
+) -> Result<(), OutOfMemory>
+    ensures { OnOk result (map node_of out.new.items ≡ map node_of out.old.items ++ node_of first.entry ∷ node_of second.entry ∷ []) }
+{
+    push(first, out)?;
+    push(second, out)
+}
+
+// Adds what `new` makes something of, and the arguments.
+pub fn push_new<'t>(
+    head: &'t Expr,
+    tails: &'t [Tail<Boxed<Expr>>],
+    args: &'t Option<Boxed<Bracket<Boxed<Expr>>>>,
+    out: &mut Vec<Node<'t>>,
+) -> Result<(), OutOfMemory>
+    ensures { OnOk result (map node_of out.new.items ≡ map node_of out.old.items ++ AnExpr head.now ∷ tails_behind head.now [] tails.now (maybe (bracket_row unmarked nodes.expr) args.now [])) }
+{
+    push_chain(head, tails, out)?;
+    push_arguments(args, out)
+}
+
+// Adds the tests and values of a choice.
+pub fn push_choice<'t>(
+    arms: &'t [Arm<Boxed<Expr>>],
+    last: &'t Expr,
+    out: &mut Vec<Node<'t>>,
+) -> Result<(), OutOfMemory>
+    ensures { OnOk result (map node_of out.new.items ≡ map node_of out.old.items ++ each_of (λ x more. AnExpr x.test ∷ AnExpr x.value ∷ more) arms.now (AnExpr last.now ∷ [])) }
+{
+    push_arms(arms, out)?;
+    push(Node::Expr(last), out)
+}
+
+// Adds the substitutions of a template.
+pub fn push_template<'t>(
+    template: &'t Template<Boxed<Expr>>,
+    out: &mut Vec<Node<'t>>,
+) -> Result<(), OutOfMemory>
+    ensures { OnOk result (map node_of out.new.items ≡ map node_of out.old.items ++ template_row unmarked nodes.expr template.now []) }
+{
+    push_substitutions(template.parts.as_slice(), out)
+}
+
+// Adds the parameters and the body of a function.
+pub fn push_keyword<'t>(
+    params: &'t Bracket<Slot>,
+    body: &'t [Stmt],
+    out: &mut Vec<Node<'t>>,
+) -> Result<(), OutOfMemory>
+    ensures { OnOk result (map node_of out.new.items ≡ map node_of out.old.items ++ bracket_row unmarked nodes.slot params.now (each_of nodes.stmt body.now [])) }
+{
+    push_params(params, out)?;
+    push_stmts(body, out)
+}
 
 // Adds an expression, where there is one.
 pub fn push_value<'t>(

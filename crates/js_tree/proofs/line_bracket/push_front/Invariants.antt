@@ -6,7 +6,7 @@ use Rattle.js_tree.specs.Parts.{AnExpr}
 use Rattle.js_tree.specs.Line.{LineItem, AToken, ANode, item_of}
 use Rattle.js_tree.specs.Line.{possible}
 use Rattle.js_tree.specs.Spelling.Rows.{each_of}
-use Rattle.js_tree.proofs.line_list.push_front.Given as goal
+use Rattle.js_tree.proofs.line_bracket.push_front.Given as goal
 
 abbrev pub invariant-loop-listed : goal.invariant-loop-listed
 invariant-loop-listed l = map item_of l.out.items ≡ map item_of l.initial.out.items ++ each_of (λ (x : Listed (Element Expr)) (more : List LineItem). possible x.item.dots (ANode (AnExpr x.item.value) ∷ AToken x.mark ∷ more)) (take l.listed-index l.front) []

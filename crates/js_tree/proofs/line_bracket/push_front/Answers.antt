@@ -6,7 +6,7 @@ use Rattle.js_tree.specs.Parts.{AnExpr}
 use Rattle.js_tree.specs.Line.{LineItem, AToken, ANode, item_of}
 use Rattle.js_tree.specs.Line.{possible}
 use Rattle.js_tree.proofs.Adding.{put_more, possible_onto}
-use Rattle.js_tree.proofs.line_list.push_front.Goals as goal
+use Rattle.js_tree.proofs.line_bracket.push_front.Goals as goal
 
 pub loop-listed-preserved : goal.loop-listed-preserved
 loop-listed-preserved c =
