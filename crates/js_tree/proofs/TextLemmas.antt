@@ -335,9 +335,9 @@ pub body_in_text : (n : Node) (ns : List Node) (body : List Stmt) → parts n �
 body_in_text n ns body e h =
     let front = own_tokens n ++ flat_map tokens_in ns in
     let t : tokens_in n ≡ front ++ tokens_in (ABody body) =
-        tokens_are n ∙ ap (λ ps. own_tokens n ++ flat_map tokens_in ps) e ∙ ap (λ ts. own_tokens n ++ ts) (flat_map-append tokens_in ns (parts (ABody body)))
-        ∙ sym (append_assoc (own_tokens n) (flat_map tokens_in ns) (flat_map tokens_in (parts (ABody body))))
-        ∙ ap (λ ts. front ++ ts) (sym (tokens_are (ABody body) ∙ ap (λ os. os ++ flat_map tokens_in (parts (ABody body))) (body_owns body))) in
+    tokens_are n ∙ ap (λ ps. own_tokens n ++ flat_map tokens_in ps) e ∙ ap (λ ts. own_tokens n ++ ts) (flat_map-append tokens_in ns (parts (ABody body)))
+    ∙ sym (append_assoc (own_tokens n) (flat_map tokens_in ns) (flat_map tokens_in (parts (ABody body))))
+    ∙ ap (λ ts. front ++ ts) (sym (tokens_are (ABody body) ∙ ap (λ os. os ++ flat_map tokens_in (parts (ABody body))) (body_owns body))) in
     let few = h.few in
     let l = ap (λ (us : List Token). length us) t ∙ length-append front (tokens_in (ABody body)) in
     record {

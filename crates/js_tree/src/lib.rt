@@ -32,6 +32,5 @@ pub use tree::{Expr, Function, Pattern, Slot, Stmt, Tree};
 pub use value::string_value;
 pub use walk::{Gather, walk_tree};
 
-
 #[cfg(test)]
 mod tests;

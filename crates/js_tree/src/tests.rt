@@ -1,7 +1,7 @@
 //! The values of strings, the tokens of a tree, levels and targets.
 use crate::{
-    Arm, Block, Bracket, Element, Expr, Function, Further, Init, Level, Listed, Pattern, Slot, Stmt, Tail, Template,
-    Token, TokenClass, Tree, admits, is_target, spell, string_value,
+    Arm, Block, Bracket, Element, Expr, Function, Further, Init, Level, Listed, Pattern, Slot,
+    Stmt, Tail, Template, Token, TokenClass, Tree, admits, is_target, spell, string_value,
 };
 use jam_base::{OutOfMemory, Text};
 use sqlite_items::{Boxed, Items};
@@ -323,9 +323,9 @@ fn a_tree_spells_its_tokens(rt: HostRuntime) -> Result<(), Fail> {
     };
     let tokens = spell(alloc, &tree)?;
     let want = [
-        "new", "a", ".", "b", "(", "s", ",", "...", "t", ")", "[", "i", "]", "`a${", "b", "}c`", "(", "s", ",", "...",
-        "t", ")", "function", "f", "(", "a", ",", "b", ")", "{", "return", "c", "?", "d", "+", "e", ":", "f", ";",
-        "var", "g", ",", "h", "=", "x", ";", "}",
+        "new", "a", ".", "b", "(", "s", ",", "...", "t", ")", "[", "i", "]", "`a${", "b", "}c`",
+        "(", "s", ",", "...", "t", ")", "function", "f", "(", "a", ",", "b", ")", "{", "return",
+        "c", "?", "d", "+", "e", ":", "f", ";", "var", "g", ",", "h", "=", "x", ";", "}",
     ];
     assert!(rt; tokens.as_slice().len() == want.len());
     for (token, text) in tokens.as_slice().iter().zip(want) {
