@@ -15,6 +15,9 @@ use Rattle.js_tree.specs.Line.{LineItem, AToken, ANode, items, possible, tail_it
 use Rattle.js_tree.specs.Parts.{Node, AnExpr, AFunction, APattern, AStmt, ASlot, ATail, ABody, each_tail, nodes, tails_behind, parts, count, left_in}
 use Rattle.js_tree.specs.Pieces.{Piece, Tok, Ahead, tokens}
 use Rattle.js_tree.specs.Spelling.{expr, function, pattern, stmt, slot, stmts}
+use Rattle.js_tree.specs.Spelling.Expressions.{expr_musts, expr_row}
+use Rattle.js_tree.specs.Spelling.Functions.{function_musts, function_row}
+use Rattle.js_tree.specs.Spelling.Statements.{stmt_musts, stmt_row}
 use Rattle.js_tree.specs.Spelling.Nodes.{Seen, pieces, lines, musts, seen_line}
 use Rattle.js_tree.specs.Spelling.Rows.{Writer, each_of, maybe, tail_row}
 use Rattle.js_tree.proofs.Folds.{map_tail}
@@ -22,7 +25,7 @@ use Rattle.js_tree.proofs.GatherLemmas.{along_parts}
 use Rattle.js_tree.proofs.PartLemmas.{Any, all_any, count_is}
 use Rattle.js_tree.proofs.RowLemmas.{over, tail_map}
 use Rattle.js_tree.proofs.RowPairs.{Keeps, expr_keeps, function_keeps, pattern_keeps, stmt_keeps, slot_keeps, tail_keeps, body_keeps}
-use Rattle.js_tree.proofs.SpellingLemmas.{expr_line, function_line, pattern_line, stmt_line, slot_line, seen_lines}
+use Rattle.js_tree.proofs.SpellingLemmas.{expr_line, function_line, pattern_line, stmt_line, slot_line, seen_lines, expr_layer, function_layer, stmt_layer}
 use Rattle.js_tree.proofs.WalkLemmas.{left_more, sum_more, sum_mapped}
 
 -- TOKENS
@@ -81,12 +84,12 @@ L = seen_lines
 -- the tokens of a node are those of its line, where this holds of the nodes in it
 node_spelled : (n : Node) → AllByRecursion Puts (parts n) → (rest : List Piece) → tokens (spelling_of n rest) ≡ spelled (line_of n) (tokens rest)
 node_spelled (AnExpr x) each rest =
-    ap tokens (expr_line x rest) ∙ tokens-musts _ _ ∙ expr_keeps L items Puts (Alike (tokens rest)) (alike (tokens rest)) (out-Expr x) rest [] each refl
+    ap tokens (expr_line x rest) ∙ tokens-musts (expr_musts (expr_layer (out-Expr x))) (expr_row L (out-Expr x) rest) ∙ expr_keeps L items Puts (Alike (tokens rest)) (alike (tokens rest)) (out-Expr x) rest [] each refl
 node_spelled (AFunction x) each rest =
-    ap tokens (function_line x rest) ∙ tokens-musts _ _ ∙ function_keeps L items Puts (Alike (tokens rest)) (alike (tokens rest)) (out-Function x) rest [] each refl
+    ap tokens (function_line x rest) ∙ tokens-musts (function_musts (function_layer (out-Function x))) (function_row L (out-Function x) rest) ∙ function_keeps L items Puts (Alike (tokens rest)) (alike (tokens rest)) (out-Function x) rest [] each refl
 node_spelled (APattern x) each rest = ap tokens (pattern_line x rest) ∙ pattern_keeps L items Puts (Alike (tokens rest)) (alike (tokens rest)) (out-Pattern x) rest [] each refl
 node_spelled (AStmt x) each rest =
-    ap tokens (stmt_line x rest) ∙ tokens-musts _ _ ∙ stmt_keeps L items Puts (Alike (tokens rest)) (alike (tokens rest)) (out-Stmt x) rest [] each refl
+    ap tokens (stmt_line x rest) ∙ tokens-musts (stmt_musts (stmt_layer (out-Stmt x))) (stmt_row L (out-Stmt x) rest) ∙ stmt_keeps L items Puts (Alike (tokens rest)) (alike (tokens rest)) (out-Stmt x) rest [] each refl
 node_spelled (ASlot x) each rest = ap tokens (slot_line x rest) ∙ slot_keeps L items Puts (Alike (tokens rest)) (alike (tokens rest)) (out-Slot x) rest [] each refl
 node_spelled (ATail head before t) each rest = tail_keeps L items Puts (Alike (tokens rest)) (alike (tokens rest)) t rest [] each refl
 node_spelled (ABody body) each rest = body_keeps L items Puts (Alike (tokens rest)) (alike (tokens rest)) body rest [] each refl

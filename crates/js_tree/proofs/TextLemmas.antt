@@ -1,8 +1,9 @@
 -- What the tokens of a text are: each has a place of its own, below the end of the text.
 use Rattle.std.proofs.Common.{◌≡◌, ℕ, ◌+◌, ◌<◌, ◌≤◌, ◌==◌, Bool, true, false, cond, not, ◌||◌, nat_le, nat_lt, List, [], ◌∷◌, ◌++◌, map, length, length-append, length-drop, append_assoc, refl, sym, ap, ◌∙◌, subst, arith, Option, Some, None}
-use Rattle.std.specs.List.{AllByRecursion, count_by, flat_map}
+use Rattle.std.specs.List.{AllByRecursion, count_by, flat_map, fold}
 use Rattle.std.proofs.lemmas.Bool.Decides.{Decides-ltb, nat_tests}
 use Rattle.std.proofs.lemmas.Grind.{flat_map-append}
+use Rattle.std.proofs.lemmas.Str.{chars-nil}
 use Rattle.std.proofs.lemmas.List.Sums.{sum_by-append, sum_by-cons}
 use Rattle.js_tree.specs.declared.token.Token.{Token}
 use Rattle.js_tree.specs.declared.token.TokenClass.{TokenClass}
@@ -17,7 +18,10 @@ use Rattle.js_tree.specs.declared.tree.Slot.{Slot}
 use Rattle.js_tree.specs.declared.tree.Stmt.{Stmt}
 use Rattle.js_tree.specs.declared.tree.Tree.{Tree}
 use Rattle.js_tree.specs.Folds.{ExprLayer, FunctionLayer, PatternLayer}
-use Rattle.js_tree.specs.Lexical.{LexesTo, Reaches}
+use Rattle.js_tree.specs.declared.part.RegexPart.TheVariants as regex_part
+use Rattle.js_tree.specs.Lexical.{IsIdentifier, LexesTo, Reaches}
+use Rattle.js_tree.specs.Lexical.Name as name
+use Rattle.js_tree.specs.Lexical.Regex as regex
 use Rattle.js_tree.specs.Lexing.{Place, start_of}
 use Rattle.js_tree.specs.Line.{LineItem, AToken, ANode, items, possible, line_of}
 use Rattle.js_tree.specs.Parts.{Node, AnExpr, AFunction, APattern, AStmt, ASlot, ATail, ABody, each_tail, parts, tails_behind}
@@ -59,18 +63,21 @@ none_counted p (t ∷ ts) e = let m = counts_more p t ts in (by (p t) refl, none
     by true f = let v = ap one_if f in let m = counts_more p t ts in absurd (omega (arith, e, m, v))
     by false f = f
 
+no_name : {A : Type 0} → IsIdentifier [] → A
+no_name r = absurd (let e : false ≡ true = (λ i. name.may_end (fold name.next name.Front (sym chars-nil i))) ∙ r.ends in cc)
+
 -- a token has a byte
 some_byte : (c : TokenClass) (text : List ℕ) → Reaches c text → 0 < length text
 some_byte c (b ∷ text) r = omega arith
-some_byte class.Name [] r = absurd (let e : false ≡ true = r.ends in cc)
-some_byte class.Word [] r = absurd (let e : false ≡ true = r.ends in cc)
+some_byte class.Name [] r = no_name r
+some_byte class.Word [] r = no_name r
 some_byte class.Number [] r = absurd (let e : false ≡ true = r in cc)
 some_byte class.Str [] r = absurd (let e : false ≡ true = r.1 in cc)
 some_byte class.TemplateWhole [] r = absurd (let e : false ≡ true = r in cc)
 some_byte class.TemplateHead [] r = absurd (let e : false ≡ true = r in cc)
 some_byte class.TemplateMiddle [] r = absurd (let e : false ≡ true = r in cc)
 some_byte class.TemplateTail [] r = absurd (let e : false ≡ true = r in cc)
-some_byte class.Regex [] r = absurd (let e : false ≡ true = r.ends in cc)
+some_byte class.Regex [] r = absurd (let e : false ≡ true = (λ i. regex.may_end (fold regex.next regex_part.Front (sym chars-nil i))) ∙ r.ends in cc)
 some_byte class.Punct [] r = absurd (let e : false ≡ true = r in cc)
 some_byte class.End [] r = absurd r
 
@@ -328,9 +335,9 @@ pub body_in_text : (n : Node) (ns : List Node) (body : List Stmt) → parts n �
 body_in_text n ns body e h =
     let front = own_tokens n ++ flat_map tokens_in ns in
     let t : tokens_in n ≡ front ++ tokens_in (ABody body) =
-        tokens_are n ∙ ap (λ ps. own_tokens n ++ flat_map tokens_in ps) e ∙ ap (λ ts. own_tokens n ++ ts) (flat_map-append tokens_in ns (parts (ABody body)))
-        ∙ sym (append_assoc (own_tokens n) (flat_map tokens_in ns) (flat_map tokens_in (parts (ABody body))))
-        ∙ ap (λ ts. front ++ ts) (sym (tokens_are (ABody body) ∙ ap (λ os. os ++ flat_map tokens_in (parts (ABody body))) (body_owns body))) in
+    tokens_are n ∙ ap (λ ps. own_tokens n ++ flat_map tokens_in ps) e ∙ ap (λ ts. own_tokens n ++ ts) (flat_map-append tokens_in ns (parts (ABody body)))
+    ∙ sym (append_assoc (own_tokens n) (flat_map tokens_in ns) (flat_map tokens_in (parts (ABody body))))
+    ∙ ap (λ ts. front ++ ts) (sym (tokens_are (ABody body) ∙ ap (λ os. os ++ flat_map tokens_in (parts (ABody body))) (body_owns body))) in
     let few = h.few in
     let l = ap (λ (us : List Token). length us) t ∙ length-append front (tokens_in (ABody body)) in
     record {

@@ -1,6 +1,7 @@
 pub mod Folds
 pub mod Lexing
 pub mod Lexical
+pub mod Levels
 pub mod Line
 pub mod Operators
 pub mod Parts

@@ -1,7 +1,9 @@
 //! Which expressions stand where, and which may be assigned to.
 ghost use Rattle.std.specs.Prelude.{◌≡◌};
+ghost use Rattle.js_tree.specs.declared.tree.Expr.{out-Expr};
+ghost use Rattle.js_tree.specs.Levels.{kind_rank, kind_target};
 ghost use Rattle.js_tree.specs.Spelling.{expr as seen};
-ghost use Rattle.js_tree.specs.Spelling.Chains.{ends_in_member};
+ghost use Rattle.js_tree.specs.Spelling.Chains.{ends_in_member, is_member as is_member_of};
 ghost use Rattle.js_tree.specs.Spelling.Nodes.{admits as takes};
 
 use crate::lists::Tail;
@@ -23,52 +25,59 @@ pub enum Level {
     Postfix,
 }
 
-/// Whether the level takes the expression (ECMA-262, 12.3 to 12.16). What stands in the expression plays no part.
+/// Whether the level takes the expression (ECMA-262, 12.3 to 12.16). What stands in it plays no part.
 pub fn admits(level: Level, expr: &Expr) -> bool
     ensures { result ≡ takes level (seen expr.now).rank }
 {
+    reaches(level, rank(expr))
+}
+
+// A rank that the same levels take.
+fn rank(expr: &Expr) -> u32
+    ensures { result ≡ kind_rank (out-Expr expr.now) }
+{
     match expr {
-        Expr::Comma { first: _, rest: _ } => reaches(level, 0),
+        Expr::Comma { first: _, rest: _ } => 0,
         Expr::Assign {
             target: _,
             op: _,
             value: _,
-        } => reaches(level, 1),
-        Expr::Cond { arms: _, last: _ } => reaches(level, 2),
+        } => 1,
+        Expr::Cond { arms: _, last: _ } => 2,
         Expr::Binary {
-            level: own,
+            level,
             first: _,
             rest: _,
-        } => reaches(level, u32::from(*own) + 2),
+        } => u32::from(*level) + 2,
         Expr::Power {
             base: _,
             op: _,
             exponent: _,
-        } => reaches(level, 13),
-        Expr::Unary { op: _, operand: _ } => reaches(level, 14),
-        Expr::Postfix { target: _, op: _ } => reaches(level, 16),
-        Expr::Chain { head: _, tails: _ } => true,
+        } => 13,
+        Expr::Unary { op: _, operand: _ } => 14,
+        Expr::Postfix { target: _, op: _ } => 16,
+        Expr::Name(_) => 17,
+        Expr::This(_) => 17,
+        Expr::Literal(_) => 17,
+        Expr::Template(_) => 17,
+        Expr::Paren {
+            open: _,
+            inner: _,
+            close: _,
+        } => 17,
+        Expr::Fun { function: _ } => 17,
+        Expr::Chain { head: _, tails: _ } => 17,
         Expr::New {
             word: _,
             head: _,
             tails: _,
             args: _,
-        } => true,
+        } => 17,
         Expr::NewTarget {
             word: _,
             dot: _,
             target: _,
-        } => true,
-        Expr::Name(_) => true,
-        Expr::This(_) => true,
-        Expr::Literal(_) => true,
-        Expr::Template(_) => true,
-        Expr::Paren {
-            open: _,
-            inner: _,
-            close: _,
-        } => true,
-        Expr::Fun { function: _ } => true,
+        } => 17,
     }
 }
 
@@ -86,29 +95,59 @@ fn reaches(level: Level, rank: u32) -> bool
 }
 
 /// Whether the expression is a target: a name, a chain that ends in a member, or a target in round brackets
-/// (ECMA-262, 12.15.3).
+/// (ECMA-262, 12.15.3). The call goes as deep as round brackets are nested.
 pub fn is_target(expr: &Expr) -> bool
     ensures { result ≡ (seen expr.now).is_target }
 {
-    let mut at = expr;
-    while let Expr::Paren {
-        open: _,
-        inner,
-        close: _,
-    } = at
-    {
-        at = inner.get();
-    }
-    is_place(at)
+    is_place(expr)
 }
 
-// The same of an expression that doesn't stand in brackets of its own.
+// The same by the kind of the expression.
 fn is_place(expr: &Expr) -> bool
+    ensures { result ≡ kind_target (out-Expr expr.now) }
 {
     match expr {
+        Expr::Paren {
+            open: _,
+            inner,
+            close: _,
+        } => is_place(inner.get()),
         Expr::Name(_) => true,
         Expr::Chain { head: _, tails } => ends(tails.as_slice()),
-        _ => false,
+        Expr::This(_) => false,
+        Expr::Literal(_) => false,
+        Expr::Template(_) => false,
+        Expr::Fun { function: _ } => false,
+        Expr::New {
+            word: _,
+            head: _,
+            tails: _,
+            args: _,
+        } => false,
+        Expr::NewTarget {
+            word: _,
+            dot: _,
+            target: _,
+        } => false,
+        Expr::Postfix { target: _, op: _ } => false,
+        Expr::Unary { op: _, operand: _ } => false,
+        Expr::Power {
+            base: _,
+            op: _,
+            exponent: _,
+        } => false,
+        Expr::Binary {
+            level: _,
+            first: _,
+            rest: _,
+        } => false,
+        Expr::Cond { arms: _, last: _ } => false,
+        Expr::Assign {
+            target: _,
+            op: _,
+            value: _,
+        } => false,
+        Expr::Comma { first: _, rest: _ } => false,
     }
 }
 
@@ -116,17 +155,24 @@ fn is_place(expr: &Expr) -> bool
 fn ends(tails: &[Tail<Boxed<Expr>>]) -> bool
     ensures { result ≡ ends_in_member tails.now }
 {
-    match tails.last() {
-        None => false,
-        Some(tail) => match tail {
-            Tail::Member { dot: _, name: _ } => true,
-            Tail::Index {
-                open: _,
-                value: _,
-                close: _,
-            } => true,
-            Tail::Call(_) => false,
-            Tail::Template(_) => false,
-        },
+    let mut last = false;
+    for tail in tails {
+        last = is_member(tail);
+    }
+    last
+}
+
+fn is_member(tail: &Tail<Boxed<Expr>>) -> bool
+    ensures { result ≡ is_member_of tail.now }
+{
+    match tail {
+        Tail::Member { dot: _, name: _ } => true,
+        Tail::Index {
+            open: _,
+            value: _,
+            close: _,
+        } => true,
+        Tail::Call(_) => false,
+        Tail::Template(_) => false,
     }
 }

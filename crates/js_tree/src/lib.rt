@@ -21,7 +21,7 @@ mod tree;
 mod value;
 mod walk;
 
-pub use level::Level;
+pub use level::{Level, admits, is_target};
 pub use lists::{Arm, Block, Bracket, Element, Further, Init, Listed, Tail, Template};
 pub use node::{Node, push_parts};
 pub use part::{EscapePart, NumberPart, RegexPart, StringPart, TemplatePart, TriviaPart};
@@ -32,3 +32,5 @@ pub use tree::{Expr, Function, Pattern, Slot, Stmt, Tree};
 pub use value::string_value;
 pub use walk::{Gather, walk_tree};
 
+#[cfg(test)]
+mod tests;

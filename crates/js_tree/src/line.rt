@@ -7,7 +7,10 @@ ghost use Rattle.js_tree.specs.Line.{given_marks, items};
 ghost use Rattle.js_tree.specs.Spelling.Rows.{tail_row};
 
 use crate::line_bracket::push_bracket;
-use crate::line_list::{push_body, push_chain, push_choice, push_init, push_keyword, push_new, push_possible, push_return, push_several, push_template, push_vars};
+use crate::line_list::{
+    push_body, push_chain, push_choice, push_init, push_keyword, push_new, push_possible,
+    push_return, push_several, push_template, push_vars,
+};
 use crate::lists::Tail;
 use crate::node::Node;
 use crate::token::Token;
@@ -58,7 +61,12 @@ fn push_expr<'t>(value: &'t Expr, out: &mut Vec<LineItem<'t>>) -> Result<(), Out
         }
         Expr::Fun { function } => push_node(Node::Function(function.get()), out),
         Expr::Chain { head, tails } => push_chain(head.get(), tails.as_slice(), out),
-        Expr::New { word, head, tails, args } => push_new(word, head.get(), tails.as_slice(), args, out),
+        Expr::New {
+            word,
+            head,
+            tails,
+            args,
+        } => push_new(word, head.get(), tails.as_slice(), args, out),
         Expr::NewTarget { word, dot, target } => {
             push_token(word, out)?;
             push_token(dot, out)?;
@@ -77,7 +85,11 @@ fn push_expr<'t>(value: &'t Expr, out: &mut Vec<LineItem<'t>>) -> Result<(), Out
             push_token(op, out)?;
             push_node(Node::Expr(exponent.get()), out)
         }
-        Expr::Binary { level: _, first, rest } => push_several(first.get(), rest.as_slice(), out),
+        Expr::Binary {
+            level: _,
+            first,
+            rest,
+        } => push_several(first.get(), rest.as_slice(), out),
         Expr::Cond { arms, last } => push_choice(arms.as_slice(), last.get(), out),
         Expr::Assign { target, op, value } => {
             push_node(Node::Pattern(target.get()), out)?;
@@ -92,7 +104,12 @@ fn push_function<'t>(function: &'t Function, out: &mut Vec<LineItem<'t>>) -> Res
     ensures { OnOk result (map item_of out.new.items ≡ map item_of out.old.items ++ line_of (AFunction function.now)) }
 {
     match function {
-        Function::Keyword { word, name, params, body } => push_keyword(word, name, params, body, out),
+        Function::Keyword {
+            word,
+            name,
+            params,
+            body,
+        } => push_keyword(word, name, params, body, out),
     }
 }
 
@@ -118,7 +135,12 @@ fn push_stmt<'t>(statement: &'t Stmt, out: &mut Vec<LineItem<'t>>) -> Result<(),
             push_node(Node::Expr(value.get()), out)?;
             push_possible(semi, out)
         }
-        Stmt::Vars { word, first, rest, semi } => push_vars(word, first, rest.as_slice(), semi, out),
+        Stmt::Vars {
+            word,
+            first,
+            rest,
+            semi,
+        } => push_vars(word, first, rest.as_slice(), semi, out),
         Stmt::Return { word, value, semi } => push_return(word, value, semi, out),
         Stmt::Fun { function } => push_node(Node::Function(function.get()), out),
     }

@@ -230,7 +230,10 @@ pub fn push_arms<'t>(
     Ok(())
 }
 
-pub fn push_arm<'t>(arm: &'t Arm<Boxed<Expr>>, out: &mut Vec<LineItem<'t>>) -> Result<(), OutOfMemory>
+pub fn push_arm<'t>(
+    arm: &'t Arm<Boxed<Expr>>,
+    out: &mut Vec<LineItem<'t>>,
+) -> Result<(), OutOfMemory>
     ensures { OnOk result (map item_of out.new.items ≡ map item_of out.old.items ++ arm_row given_marks items.expr arm.now []) }
 {
     push_node(Node::Expr(arm.test.get()), out)?;
@@ -274,7 +277,10 @@ pub fn push_substitution<'t>(
 }
 
 // Adds statements in braces.
-pub fn push_block<'t>(block: &'t Block<Stmt>, out: &mut Vec<LineItem<'t>>) -> Result<(), OutOfMemory>
+pub fn push_block<'t>(
+    block: &'t Block<Stmt>,
+    out: &mut Vec<LineItem<'t>>,
+) -> Result<(), OutOfMemory>
     ensures { OnOk result (map item_of out.new.items ≡ map item_of out.old.items ++ AToken block.now.begin ∷ each_of items.stmt block.now.body (AToken block.now.end ∷ [])) }
 {
     push_token(&block.begin, out)?;

@@ -5,7 +5,10 @@ ghost use Rattle.js_tree.specs.Spelling.Rows.{tail_row};
 ghost use Rattle.js_tree.specs.Spelling.Nodes.{unmarked};
 
 use crate::lists::Tail;
-use crate::node_list::{push_bracket, push_chain, push_choice, push_further_slots, push_keyword, push_new, push_several, push_stmts, push_template, push_two, push_value};
+use crate::node_list::{
+    push_bracket, push_chain, push_choice, push_further_slots, push_keyword, push_new,
+    push_several, push_stmts, push_template, push_two, push_value,
+};
 use crate::tree::{Expr, Function, Pattern, Slot, Stmt};
 use jam_base::OutOfMemory;
 use sqlite_items::Boxed;

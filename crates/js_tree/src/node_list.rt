@@ -152,7 +152,10 @@ pub fn push_further_slots<'t>(
 }
 
 // Adds the arms of a choice.
-pub fn push_arms<'t>(arms: &'t [Arm<Boxed<Expr>>], out: &mut Vec<Node<'t>>) -> Result<(), OutOfMemory>
+pub fn push_arms<'t>(
+    arms: &'t [Arm<Boxed<Expr>>],
+    out: &mut Vec<Node<'t>>,
+) -> Result<(), OutOfMemory>
     ensures { OnOk result (map node_of out.new.items ≡ map node_of out.old.items ++ each_of (λ x more. AnExpr x.test ∷ AnExpr x.value ∷ more) arms.now []) }
 {
     for arm in arms {
@@ -232,7 +235,10 @@ pub fn push_last<'t>(
 }
 
 // Adds the items in brackets.
-pub fn push_params<'t>(bracket: &'t Bracket<Slot>, out: &mut Vec<Node<'t>>) -> Result<(), OutOfMemory>
+pub fn push_params<'t>(
+    bracket: &'t Bracket<Slot>,
+    out: &mut Vec<Node<'t>>,
+) -> Result<(), OutOfMemory>
     ensures { OnOk result (map node_of out.new.items ≡ map node_of out.old.items ++ bracket_row unmarked nodes.slot bracket.now []) }
 {
     push_front_slots(bracket.front.as_slice(), out)?;

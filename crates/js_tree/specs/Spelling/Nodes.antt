@@ -144,7 +144,11 @@ seen_line x = x.line
 abbrev pub lines : Writer Seen Seen Seen Seen Seen (List Piece)
 lines = record {
   marks = pieces;
-  expr = seen_line; function = seen_line; pattern = seen_line; stmt = seen_line; slot = seen_line;
+  expr = seen_line;
+  function = seen_line;
+  pattern = seen_line;
+  stmt = seen_line;
+  slot = seen_line;
   tails = λ head. each_of (tail_row pieces seen_line);
 }
 
@@ -155,7 +159,11 @@ unmarked = record { token = λ test t rest. rest; option = λ test o rest. rest;
 abbrev pub over_nodes : {A R : Type 0} → (A → R → R) → Writer A A A A A R
 over_nodes put = record {
   marks = unmarked;
-  expr = put; function = put; pattern = put; stmt = put; slot = put;
+  expr = put;
+  function = put;
+  pattern = put;
+  stmt = put;
+  slot = put;
   tails = λ head. each_of (tail_row unmarked put);
 }
 
