@@ -1,8 +1,13 @@
 //! Which rule a token begins, and with which an expression goes on.
+ghost use Rattle.std.specs.Prelude.{◌≡◌};
+ghost use Rattle.js_tree.specs.Operators as operators;
+
 use js_tree::TokenKind;
 
 /// The level of an operator between two operands, from 1 for `||` to 10 for `*`, or 0 where it is none.
-pub fn level_of(kind: TokenKind) -> u8 {
+pub fn level_of(kind: TokenKind) -> u8
+    ensures { result ≡ operators.level_of kind }
+{
     match kind {
         TokenKind::Or => 1,
         TokenKind::And => 2,
@@ -32,7 +37,9 @@ pub fn level_of(kind: TokenKind) -> u8 {
 }
 
 /// Whether the token assigns.
-pub fn is_assignment(kind: TokenKind) -> bool {
+pub fn is_assignment(kind: TokenKind) -> bool
+    ensures { result ≡ operators.is_assignment kind }
+{
     match kind {
         TokenKind::Assign => true,
         TokenKind::PlusAssign => true,
@@ -52,7 +59,9 @@ pub fn is_assignment(kind: TokenKind) -> bool {
 }
 
 /// Whether the token is `++` or `--`.
-pub fn is_update(kind: TokenKind) -> bool {
+pub fn is_update(kind: TokenKind) -> bool
+    ensures { result ≡ operators.is_update kind }
+{
     match kind {
         TokenKind::Increment => true,
         TokenKind::Decrement => true,
@@ -61,7 +70,9 @@ pub fn is_update(kind: TokenKind) -> bool {
 }
 
 /// Whether the token stands before its operand.
-pub fn is_unary(kind: TokenKind) -> bool {
+pub fn is_unary(kind: TokenKind) -> bool
+    ensures { result ≡ operators.is_unary kind }
+{
     match kind {
         TokenKind::Delete => true,
         TokenKind::Void => true,
