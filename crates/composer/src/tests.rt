@@ -1,8 +1,10 @@
-use crate::{Graph, Link, compose};
+use crate::{Graph, Part, SIZE_LIMIT, compose, size_of};
+use flow_fold::fold;
 use flow_rules::{Constraints, Flow, Require, Vertex};
-use jam_base::{Edge, FunctionRef, List, OutOfMemory, Text};
+use jam_base::{Edge, FunctionRef, List, ModulePath, OutOfMemory, Steps, Text};
 use js_scopes::{FunctionInfo, SiteInfo};
 use std::alloc::Global;
+use std::sync::ledger::{Blank, Ledger};
 
 fn functions(alloc: Global, params: &[u32]) -> Result<List<FunctionInfo>, OutOfMemory> {
     let mut out = Vec::new(alloc);
@@ -57,13 +59,13 @@ fn edge(m: u32, holder: u32, offset: u32, to: u32, function: u32) -> Edge {
     }
 }
 
-fn module(
+fn part(
     alloc: Global,
     params: &[u32],
     sites: Vec<SiteInfo>,
     requires_: Vec<Require>,
     flows: Vec<Flow>,
-) -> Result<Constraints, OutOfMemory> {
+) -> Result<Part, OutOfMemory> {
     let made = Constraints::of(
         functions(alloc, params)?,
         List::of(sites),
@@ -71,17 +73,28 @@ fn module(
         List::of(Vec::new(alloc)),
         List::of(flows),
     );
-    match made {
-        Some(made) => Ok(made),
-        None => Err(OutOfMemory),
+    let path = ModulePath::read(alloc, "a.js")?;
+    match (made, path) {
+        (Some(made), Some(path)) => Ok(Part {
+            path,
+            summary: fold(alloc, made)?,
+        }),
+        _ => Err(OutOfMemory),
     }
 }
 
-#[test]
-fn nothing_has_no_edges(rt: HostRuntime) -> Result<(), OutOfMemory> {
-    let graph: Graph = compose(rt.alloc(), &[], &[])?;
-    assert!(rt; graph.edges().is_empty());
-    Ok(())
+// The call graph of a part alone.
+fn graph_of<L: Ledger>(alloc: Global, part: Part, blank: Blank) -> Result<Graph, OutOfMemory>
+    requires name { blank.name ≡ L.name }
+    requires parts { blank.parts ≡ L.parts }
+    requires some { 0 < L.parts }
+{
+    let mut steps = Steps::<L>::new(blank);
+    let parts = [part];
+    if size_of(&parts) >= SIZE_LIMIT {
+        return Err(OutOfMemory);
+    }
+    compose(alloc, &parts, &[], &mut steps)
 }
 
 #[test]
@@ -94,9 +107,10 @@ fn a_function_calls_itself(rt: HostRuntime) -> Result<(), OutOfMemory> {
     let mut sites = Vec::new(alloc);
     sites.push(site(5, 1, 0))?;
     sites.push(site(9, 0, 0))?;
-    let one = module(alloc, &[0, 0], sites, Vec::new(alloc), flows)?;
-    let graph = compose(alloc, &[one], &[])?;
+    let one = part(alloc, &[0, 0], sites, Vec::new(alloc), flows)?;
+    let graph = graph_of(alloc, one, Blank::new(1))?;
     assert!(rt; graph.edges() == [edge(0, 1, 5, 0, 1), edge(0, 0, 9, 0, 1)].as_slice());
+    assert!(rt; graph.functions() == 2);
     Ok(())
 }
 
@@ -115,35 +129,45 @@ fn a_native_calls_what_it_is_given(rt: HostRuntime) -> Result<(), OutOfMemory> {
     ))?;
     let mut sites = Vec::new(alloc);
     sites.push(site(3, 0, 1))?;
-    let one = module(alloc, &[0, 1], sites, Vec::new(alloc), flows)?;
-    let graph = compose(alloc, &[one], &[])?;
+    let one = part(alloc, &[0, 1], sites, Vec::new(alloc), flows)?;
+    let graph = graph_of(alloc, one, Blank::new(1))?;
     assert!(rt; graph.edges() == [edge(0, 0, 3, 0, 1)].as_slice());
     Ok(())
 }
 
 #[test]
-fn a_link_brings_what_a_module_exports(rt: HostRuntime) -> Result<(), OutOfMemory> {
+fn more_than_a_few_functions_come_to_one_vertex(rt: HostRuntime) -> Result<(), OutOfMemory> {
     let alloc = rt.alloc();
     let mut flows = Vec::new(alloc);
-    flows.push(flow(Vertex::Req { offset: 2 }, callee(7)))?;
+    let mut params = Vec::new(alloc);
+    let mut edges = Vec::new(alloc);
+    for function in 0..20 {
+        flows.push(flow(lit(function), callee(3)))?;
+        params.push(0)?;
+        edges.push(edge(0, 0, 3, 0, function))?;
+    }
     let mut sites = Vec::new(alloc);
-    sites.push(site(7, 0, 0))?;
+    sites.push(site(3, 0, 0))?;
+    let one = part(alloc, params.as_slice(), sites, Vec::new(alloc), flows)?;
+    let graph = graph_of(alloc, one, Blank::new(1))?;
+    assert!(rt; graph.edges() == edges.as_slice());
+    Ok(())
+}
+
+#[test]
+fn the_size_counts_functions_sites_requires_and_flows(rt: HostRuntime) -> Result<(), OutOfMemory> {
+    let alloc = rt.alloc();
+    let mut flows = Vec::new(alloc);
+    flows.push(flow(lit(1), callee(3)))?;
+    let mut sites = Vec::new(alloc);
+    sites.push(site(3, 0, 7))?;
     let mut requires_ = Vec::new(alloc);
     requires_.push(Require {
-        offset: 2,
+        offset: 1,
         spec: Text::of(alloc, "./b")?,
         holder: 0,
     })?;
-    let first = module(alloc, &[0], sites, requires_, flows)?;
-    let mut exports = Vec::new(alloc);
-    exports.push(flow(lit(1), Vertex::Exports))?;
-    let second = module(alloc, &[0, 0], Vec::new(alloc), Vec::new(alloc), exports)?;
-    let link = Link {
-        module: 0,
-        offset: 2,
-        target: 1,
-    };
-    let graph = compose(alloc, &[first, second], &[link])?;
-    assert!(rt; graph.edges() == [edge(0, 0, 2, 1, 0), edge(0, 0, 7, 1, 1)].as_slice());
+    let parts = [part(alloc, &[0, 5], sites, requires_, flows)?];
+    assert!(rt; size_of(&parts) == 126);
     Ok(())
 }

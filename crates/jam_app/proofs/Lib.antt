@@ -16,3 +16,4 @@ pub mod Targets
 pub mod Telling
 pub mod Whole
 pub mod WholeGraph
+pub mod Wide
