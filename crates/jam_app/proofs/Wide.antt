@@ -1,14 +1,12 @@
 -- How large loaded modules are together, and that one application has one size.
-use Rattle.std.proofs.Common.{◌≡◌, ℕ, ◌+◌, ◌<◌, ◌≤◌, zero, suc, List, [], ◌∷◌, length, map, refl, ap, sym, subst, ◌∙◌, arith, sum_by, Option, Some, None, Result, Ok, Err}
+use Rattle.std.proofs.Common.{◌≡◌, ℕ, ◌+◌, ◌<◌, ◌≤◌, List, [], ◌∷◌, length, map, refl, ap, sym, subst, ◌∙◌, arith, sum_by, inl, inr, Option, Result, Ok, Err}
 use Rattle.std.specs.Prelude.{All, Contains, IfSome, IfOk, IfErr}
 use Rattle.std.specs.Cmp.Lexicographic.{nat_list_cmp_total}
 use Rattle.std.proofs.lemmas.List.Elements.{All-head, All-tail}
 use Rattle.std.proofs.lemmas.List.Sums.{sum_by-cons}
 use Rattle.std.proofs.lemmas.Option.{same_Some}
 use Rattle.jam_base.specs.Files.{Files}
-use Rattle.js_tree.specs.declared.tree.Tree.{Tree}
 use Rattle.flow_rules.specs.Constraints.{ModuleConstraints}
-use Rattle.flow_rules.specs.Flows.{constraints_of}
 use Rattle.composer.specs.declared.application.Part.{Part}
 use Rattle.composer.specs.Parts.{lists_of}
 use Rattle.composer.specs.Sizes.{made_size, module_size, size_limit, size_of}
@@ -19,13 +17,11 @@ use Rattle.jam_app.specs.declared.answers.stop.Stop.{Stop}
 use Rattle.jam_app.specs.declared.answers.stop.Stop.TheVariants.{ReadFault, OutOfMemory, Refused}
 use Rattle.jam_app.specs.declared.loading.loaded.Loaded.{Loaded}
 use Rattle.jam_app.specs.Graphs.{IsGraphText, constraints_all}
-use Rattle.jam_app.specs.Lines.{TellsRefusal}
-use Rattle.jam_app.specs.Loading.{IsAnalysed, IsKept, IsSummaryOf, IsWhole, loaded_size, module_of, part_of}
+use Rattle.jam_app.specs.Loading.{IsAnalysed, IsKept, IsWhole, loaded_size, module_of, part_of}
 use Rattle.jam_app.specs.Refusals.{IsRefusal, IsTooWide, load, too_wide}
 use Rattle.jam_app.specs.Rounds.{IsApplication, IsModuleOf, IsTreeOf, LoadedModule, bytes_at, spelled, bad}
-use Rattle.jam_app.specs.Stops.{CountsFaults, Gives, HasStopCause, IsOwed, KeepsCount, StopsWide}
-use Rattle.jam_app.specs.Texts.{IsOnlyTree}
-use Rattle.jam_app.proofs.Causes.{told}
+use Rattle.jam_app.specs.Stops.{CountsFaults, Gives, HasStopCause, IsOwed, KeepsCount, Refuses, StopsWide}
+use Rattle.jam_app.proofs.Causes.{refused_stop, told}
 use Rattle.jam_app.proofs.WholeGraph.{constraints_same}
 
 -- the parts of loaded modules say what their summaries say
@@ -114,16 +110,17 @@ pub printed_gives : (operand : List ℕ) (files : Option Files) (before now : �
     → IfOk r (λ text. (o : List ℕ) (m : Files) → IsWhole o m ls → IsGraphText o m text) → IfOk r (λ text. loaded_size ls < size_limit) → IfErr r (StopsWide (loaded_size ls))
     → Gives (IsOwed operand) (IsRefusal operand) files before now r
 printed_gives operand files before now ls (Ok text) whole graph narrow wide = told files whole (λ m w. record { graph = graph operand m w; unrefused = none_owed m operand ls w narrow })
-printed_gives operand files before now ls (Err ReadFault) whole graph narrow wide = absurd wide
-printed_gives operand files before now ls (Err OutOfMemory) whole graph narrow wide = tt
-printed_gives operand files before now ls (Err (Refused answered line)) whole graph narrow wide = (
-  told files whole (λ m w. subst (IsRefusal operand m) (sym wide.1.0) (too_wide (loaded_size ls) (is_too_wide m operand ls w wide.0))),
-  subst (λ a. TellsRefusal a line) (sym wide.1.0) wide.1.1,
-)
+printed_gives operand files before now ls (Err stop) whole graph narrow (inl none) = subst (HasStopCause (IsRefusal operand) files before now) (sym none) tt
+printed_gives operand files before now ls (Err stop) whole graph narrow (inr (over, refuses)) =
+    refused_stop (IsRefusal operand) (refusal.TooWide (loaded_size ls)) files before now stop refuses (told files whole (λ m w. too_wide (loaded_size ls) (is_too_wide m operand ls w over)))
+
+keeps : (n count : ℕ) (stop : Stop) → Refuses (refusal.TooWide n) stop → KeepsCount count count stop
+keeps n count ReadFault refuses = absurd refuses
+keeps n count OutOfMemory refuses = refl
+keeps n count (Refused answered line) refuses = refl
 
 -- and it leaves the count of faults as it was
 pub printed_counts : (n count : ℕ) (r : Result (List ℕ) Stop) → IfErr r (StopsWide n) → CountsFaults count count r
 printed_counts n count (Ok text) wide = record { later = omega arith; done = refl; stopped = tt }
-printed_counts n count (Err ReadFault) wide = absurd wide
-printed_counts n count (Err OutOfMemory) wide = record { later = omega arith; done = tt; stopped = refl }
-printed_counts n count (Err (Refused answered line)) wide = record { later = omega arith; done = tt; stopped = refl }
+printed_counts n count (Err stop) (inl none) = record { later = omega arith; done = tt; stopped = subst (KeepsCount count count) (sym none) refl }
+printed_counts n count (Err stop) (inr (over, refuses)) = record { later = omega arith; done = tt; stopped = keeps n count stop refuses }

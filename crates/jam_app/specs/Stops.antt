@@ -1,5 +1,5 @@
 -- What a step of the work answers.
-use Rattle.std.specs.Prelude.{◌≡◌, ℕ, ◌<◌, ◌≤◌, List, length, Result, Ok, Err, IfErr, OnOk, Option, IfSome}
+use Rattle.std.specs.Prelude.{◌≡◌, ◌⊎◌, ℕ, ◌<◌, ◌≤◌, List, length, Result, Ok, Err, IfErr, OnOk, Option, IfSome}
 use Rattle.js_tree.specs.Spells.{limit}
 use Rattle.jam_base.specs.Causes.{Rose}
 use Rattle.jam_base.specs.Files.{Files}
@@ -52,9 +52,7 @@ pub record IsOwed (operand : List ℕ) (files : Files) (text : List ℕ) : Type 
 
 -- composition stops for want of memory, or since the parts have this size and are too wide
 abbrev pub StopsWide : ℕ → Stop → Type 0
-StopsWide size ReadFault = ⊥
-StopsWide size OutOfMemory = Unit {0}
-StopsWide size (Refused answered line) = (size_limit ≤ size) × Refuses (refusal.TooWide size) (Refused answered line)
+StopsWide size stop = (stop ≡ OutOfMemory) ⊎ ((size_limit ≤ size) × Refuses (refusal.TooWide size) stop)
 
 -- why a file has no tree: it is too large, none spells its text, which reading left at the offset, or memory ran out
 abbrev pub HasBadCause : List ℕ → Bad → Type 0

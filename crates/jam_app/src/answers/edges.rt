@@ -2,7 +2,6 @@
 ghost use Rattle.std.specs.Prelude.{◌≡◌, ◌≤◌, ◌<◌, ◌++◌, ℕ, List, length, map, take, slice_get, None, Some, All, IfErr, IfOk, OnOk};
 ghost use Rattle.std.specs.Str.{IsAscii};
 ghost use Rattle.jam_base.specs.Files.{Files};
-ghost use Rattle.flow_rules.specs.Flows.{constraints_of};
 ghost use Rattle.jam_app.specs.Graphs as graphs;
 ghost use Rattle.composer.specs.Sizes.{size_limit};
 ghost use Rattle.jam_app.specs.Loading.{IsWhole, loaded_size, module_of};
@@ -14,9 +13,9 @@ ghost use Rattle.report_text.specs.Graph.{graph_text_of};
 
 use crate::Stop;
 use crate::answers::printed::{Printed, nowhere};
-use crate::loading::composed::{composed, parts_of};
 use crate::loading::links::links_of;
 use crate::loading::loaded::Loaded;
+use crate::loading::parts::{composed, parts_of};
 use composer::Graph;
 use jam_base::{Edge, FunctionRef, List, OutOfMemory, Place, Text};
 use report_text::{PathStep, Shown, graph_text};

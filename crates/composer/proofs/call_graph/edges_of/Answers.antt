@@ -1,10 +1,10 @@
-use Rattle.std.proofs.Common.{◌≡◌, ◌∙◌, [], length, map, rules, subst, sym}
+use Rattle.std.proofs.Common.{◌≡◌, ◌∙◌, [], length, rules, subst, sym}
 use Rattle.std.proofs.lemmas.List.{length-map}
 use Rattle.std.specs.Cmp.Rules.{comparing}
 use Rattle.std.proofs.lemmas.List.Filters.{dedup_is}
 use Rattle.composer.specs.Application.{system_of}
 use Rattle.composer.specs.Parts.{lists_of}
-use Rattle.composer.specs.Solved.{AddsEdges, IsAmong, IsEdgeBelow, IsLinkEdge}
+use Rattle.composer.specs.Solved.{AddsEdges, IsEdgeBelow}
 use Rattle.composer.proofs.EdgeLemmas.{edge_list, edges_found, edges_all, same_dedup}
 use Rattle.composer.proofs.call_graph.edges_of.Goals as goal
 

@@ -1,4 +1,4 @@
-use Rattle.std.proofs.Common.{◌≡◌, [], ◌++◌, get_or, sym, subst, arith}
+use Rattle.std.proofs.Common.{◌≡◌, [], get_or, sym, subst, arith}
 use Rattle.std.proofs.lemmas.List.{get_or_default, take_all}
 use Rattle.js_scopes.specs.declared.site.SiteInfo.{SiteInfo}
 use Rattle.composer.proofs.Members.{none}

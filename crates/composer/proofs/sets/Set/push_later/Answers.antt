@@ -1,4 +1,4 @@
-use Rattle.std.proofs.Common.{◌≡◌, ◌≤◌, length, sym, subst}
+use Rattle.std.proofs.Common.{◌≤◌, length, sym, subst}
 use Rattle.composer.specs.Rows.{few_values}
 use Rattle.composer.proofs.SetLemmas.{indexed_more}
 use Rattle.composer.proofs.sets.Set.push_later.Goals as goal

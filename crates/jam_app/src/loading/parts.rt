@@ -52,7 +52,7 @@ fn counted<L: Ledger>(
     blank: Blank,
 ) -> Result<Graph, OutOfMemory>
     requires name { blank.name ≡ L.name }
-    requires parts { blank.parts ≡ L.parts }
+    requires shares { blank.parts ≡ L.parts }
     requires some { 0 < L.parts }
     requires paths { AreByPath parts.now }
     requires links { AreLinks (lists_of parts.now) links.now }
