@@ -8,7 +8,7 @@ use Rattle.composer.specs.Graphs.{AreValues, CallGraph, function_count}
 use Rattle.composer.specs.Numbers.{values_of}
 use Rattle.composer.specs.Solution.{InSolution}
 use Rattle.composer.specs.Parts.{lists_of}
-use Rattle.composer.specs.Solved.{AreSolved, HasOneNumber}
+use Rattle.composer.specs.Solved.{HasOneNumber}
 use Rattle.composer.proofs.NumberLemmas.{system_members}
 use Rattle.composer.proofs.PlaceLemmas.{count_from, has_one_number, native_number}
 use Rattle.composer.proofs.SeenValues.{values_are}
@@ -40,10 +40,10 @@ returns-clause-values g c =
     let links = c.args.links.now in
     let a = c.in_ok-system.system in
     let vs = c.in_ok-vertices.vertices in
-    let rows = c.in_ok-sites.sets in
+    let rows = c.in_ok-sites.field-0.sets in
     let found = values_of a.functions vs rows in
     let of_system : (t : Value) (v : ModuleVertex) → Contains {X = Value × ModuleVertex} found (t, v) ↔ ((is_internal v.vertex ≡ false) × InSolution a t v)
-    = values_are a vs rows (subst (AreSolved a vs) c.in_ok-sites.sets-is c.in_ok-sites.ensures.solved) (system_members vs a c.in_ok-vertices.ensures.all) in
+    = values_are a vs rows c.in_ok-sites.ensures.solved (system_members vs a c.in_ok-vertices.ensures.all) in
     let are : AreValues modules links found
     = subst (λ (x : System ModuleVertex Value). (t : Value) (v : ModuleVertex) → Contains {X = Value × ModuleVertex} found (t, v) ↔ ((is_internal v.vertex ≡ false) × InSolution x t v)) c.in_ok-system.ensures of_system in
     subst (AreValues modules links) (sym (ap (λ (x : CallGraph). x.values) c.of-2.ensures)) are
