@@ -4,6 +4,7 @@ use flow_rules::{Constraints, Flow, Require, Vertex};
 use jam_base::{Edge, FunctionRef, List, ModulePath, OutOfMemory, Steps, Text};
 use js_scopes::{FunctionInfo, SiteInfo};
 use std::alloc::Global;
+use std::marker::Brand;
 use std::sync::ledger::{Blank, Ledger};
 
 fn functions(alloc: Global, params: &[u32]) -> Result<List<FunctionInfo>, OutOfMemory> {
@@ -108,7 +109,7 @@ fn a_function_calls_itself(rt: HostRuntime) -> Result<(), OutOfMemory> {
     sites.push(site(5, 1, 0))?;
     sites.push(site(9, 0, 0))?;
     let one = part(alloc, &[0, 0], sites, Vec::new(alloc), flows)?;
-    let graph = graph_of(alloc, one, Blank::new(1))?;
+    let graph = graph_of::<Brand>(alloc, one, Blank::new(1))?;
     assert!(rt; graph.edges() == [edge(0, 1, 5, 0, 1), edge(0, 0, 9, 0, 1)].as_slice());
     assert!(rt; graph.functions() == 2);
     Ok(())
@@ -130,7 +131,7 @@ fn a_native_calls_what_it_is_given(rt: HostRuntime) -> Result<(), OutOfMemory> {
     let mut sites = Vec::new(alloc);
     sites.push(site(3, 0, 1))?;
     let one = part(alloc, &[0, 1], sites, Vec::new(alloc), flows)?;
-    let graph = graph_of(alloc, one, Blank::new(1))?;
+    let graph = graph_of::<Brand>(alloc, one, Blank::new(1))?;
     assert!(rt; graph.edges() == [edge(0, 0, 3, 0, 1)].as_slice());
     Ok(())
 }
@@ -149,7 +150,7 @@ fn more_than_a_few_functions_come_to_one_vertex(rt: HostRuntime) -> Result<(), O
     let mut sites = Vec::new(alloc);
     sites.push(site(3, 0, 0))?;
     let one = part(alloc, params.as_slice(), sites, Vec::new(alloc), flows)?;
-    let graph = graph_of(alloc, one, Blank::new(1))?;
+    let graph = graph_of::<Brand>(alloc, one, Blank::new(1))?;
     assert!(rt; graph.edges() == edges.as_slice());
     Ok(())
 }

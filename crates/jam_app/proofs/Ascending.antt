@@ -55,7 +55,7 @@ sorted_push R (x ∷ xs) y s h = (all_push (λ z. R x z ≡ Less) xs y s.0 (All-
 smaller : {X : Type 0} (key : X → ℕ) (xs : List X) (i : ℕ) (x y : X) → IsStrictlySortedBy (on key nat_cmp) xs → i < length xs → get_or xs i x ≡ x → Contains (take i xs) y → key y < key x
 smaller key xs i x y sorted lt at (j, within, is) =
     let before : j < i = omega (arith, within, length-take-le i xs (omega (arith, lt))) in
-    let first : get_or xs j y ≡ y = sym (get_or-take xs i j y before) ∙ is in
+    let first : get_or xs j y ≡ y = sym (get_or-take i xs j y before) ∙ is in
     let last : get_or xs i y ≡ x = get_or_default xs i y x lt ∙ at in
     is_less (key y) (key x) (sym (λ k. nat_cmp (key (first k)) (key (last k))) ∙ Less-from_sorted (on key nat_cmp) xs j i y sorted before lt)
 

@@ -1,3 +1,4 @@
+pub mod Ascending
 pub mod Bad
 pub mod Causes
 pub mod Ends

@@ -12,6 +12,7 @@ use crate::loading::loaded::Loaded;
 use composer::{Graph, Link, Part, SIZE_LIMIT, compose, size_of};
 use jam_base::{OutOfMemory, Steps};
 use std::alloc::Global;
+use std::marker::Brand;
 use std::sync::ledger::{Blank, Ledger};
 
 /// The parts that loaded modules are of their application.
@@ -41,7 +42,7 @@ pub(crate) fn composed(alloc: Global, parts: &[Part], links: &[Link]) -> Result<
     if size >= SIZE_LIMIT {
         return Err(too_wide(alloc, size));
     }
-    Ok(counted(alloc, parts, links, Blank::new(1))?)
+    Ok(counted::<Brand>(alloc, parts, links, Blank::new(1))?)
 }
 
 // The call graph of the parts, found on a counter of its own.

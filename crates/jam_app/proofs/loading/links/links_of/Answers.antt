@@ -34,8 +34,8 @@ loop-m-preserved c =
     let one = c.index-loaded-m.result in
     let at : slice_get loaded m ≡ Some one = slice_get_read loaded (length loaded) m one refl c.loop-m-test.true c.index-loaded-m.is in (
       below_more loaded m one [] c.loop-m.links.items c.push_links.new.links.items at c.loop-m.invariant.0
-          (subst (λ ts. Adds (LinksAmong loaded m ts) c.loop-m.links.items c.push_links.new.links.items) (c.as_slice-targets.ensures.value ∙ ap (λ (l : Loaded). l.targets.items) (sym c.index-loaded-m.is)) (c.in_ok-push_links.ensures.links {u = tt})),
-      up_to_next (map (λ (x : Loaded). x.summary.lists) loaded) m _ _ (c.in_ok-push_links.ensures.behind {u = tt}),
+          (subst (λ ts. Adds (LinksAmong loaded m ts) c.loop-m.links.items c.push_links.new.links.items) (c.as_slice-targets.ensures.value ∙ ap (λ (l : Loaded). l.targets.items) (sym c.index-loaded-m.is)) (c.in_ok-push_links.ensures {u = tt}).links),
+      up_to_next (map (λ (x : Loaded). x.summary.lists) loaded) m _ _ (c.in_ok-push_links.ensures {u = tt}).behind,
     )
 
 pub returns-clause-links : goal.returns-clause-links

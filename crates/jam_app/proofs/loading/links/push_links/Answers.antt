@@ -16,9 +16,9 @@ loop-led-preserved c =
     let loaded = c.args.loaded.now in
     let lists = λ (x : Loaded). x.summary.lists in
     let from = c.requires.led in (
-      among_more loaded c.args.m c.args.targets.now c.loop-led.led-index c.led-item.result _ _ _ c.loop-led-test.true (sym c.led-item.is) c.loop-led.invariant.0 (c.in_ok-push_link.ensures.links {u = tt}),
+      among_more loaded c.args.m c.args.targets.now c.loop-led.led-index c.led-item.result _ _ _ c.loop-led-test.true (sym c.led-item.is) c.loop-led.invariant.0 (c.in_ok-push_link.ensures {u = tt}).links,
       up_to_more (map lists loaded) c.args.m from.from.summary.lists c.args.targets.now (slice_get-map lists loaded c.args.m ∙ ap (option_map lists) from.here) from.led
-          c.loop-led.led-index c.led-item.result _ _ (length loaded) c.loop-led-test.true (sym c.led-item.is) (length-map loaded lists) c.loop-led.invariant.1 (c.in_ok-push_link.ensures.one {u = tt}),
+          c.loop-led.led-index c.led-item.result _ _ (length loaded) c.loop-led-test.true (sym c.led-item.is) (length-map loaded lists) c.loop-led.invariant.1 (c.in_ok-push_link.ensures {u = tt}).one,
     )
 
 pub returns-clause-links : goal.returns-clause-links
