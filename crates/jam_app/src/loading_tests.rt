@@ -347,3 +347,58 @@ fn a_fault_of_the_folder_ends_the_loading(rt: HostRuntime) -> Result<(), Fail> {
     }
     Ok(())
 }
+
+// An application with a package, its main in a folder, and a package inside it, whose call with this
+// number fails.
+fn packaged(alloc: Global, failing: u64) -> Result<Bench, Fail> {
+    let mut bench = files(
+        alloc,
+        &[
+            (
+                "index.js",
+                "var p = require(\"./node_modules/p\");\n\
+                 require(\"./node_modules/p/data\"); require(\"./absent\");\np.go();\n",
+            ),
+            ("node_modules/p/package.json", "{\"main\":\"./lib\"}"),
+            (
+                "node_modules/p/lib/index.js",
+                "var q = require(\"../node_modules/q\");\nexports.go = function () { q.run(); };\n",
+            ),
+            ("node_modules/p/data.json", "?"),
+            (
+                "node_modules/p/node_modules/q/index.js",
+                "exports.run = function () { };\n",
+            ),
+            ("node_modules/q/index.js", "?"),
+        ],
+    )?;
+    bench.folder.fail_at(List::of(vec![in alloc; failing]?));
+    Ok(bench)
+}
+
+#[test]
+fn packages_are_loaded_by_their_main_and_index(rt: HostRuntime) -> Result<(), Fail> {
+    let alloc = rt.alloc();
+    let edges = "index.js:1:16 -> node_modules/p/lib/index.js:1:1 <module>\n\
+                 index.js:3:5 -> node_modules/p/lib/index.js:2:14 go\n\
+                 node_modules/p/lib/index.js:1:16 -> node_modules/p/node_modules/q/index.js:1:1 <module>\n\
+                 node_modules/p/lib/index.js:2:33 -> node_modules/p/node_modules/q/index.js:1:15 run\n";
+    for failing in 1..33u64 {
+        let (number, out, err) = if failing < 32 {
+            (3, "", "jam: read failed\n")
+        } else {
+            (0, edges, "")
+        };
+        let mut bench = packaged(alloc, failing)?;
+        let words = words_of(alloc, "graph index.js")?;
+        let status = ran::<HostRuntime, Brand>(
+            &rt,
+            alloc,
+            &mut bench,
+            words.as_slice(),
+            Blank::new(1),
+        );
+        compare(&rt, &bench, &status, number, out, err);
+    }
+    Ok(())
+}
