@@ -2,6 +2,7 @@
 use crate::expressions::{assignment, expression};
 use crate::functions::function;
 use crate::kinds::is_template;
+use crate::marks::mark;
 use crate::tall::{CHAIN, MADE, NEW, PRIMARY, Tall, Value, above, higher};
 use js_tokens::{Goal, TokenFault, TokenReader};
 use js_tree::{Bracket, Element, Expr, Listed, Tail, Template, Token, TokenKind};
@@ -9,6 +10,7 @@ use sqlite_items::{Boxed, Items};
 use std::alloc::Global;
 
 /// A primary.
+#[cycle(rules)]
 pub fn primary(
     alloc: Global,
     reader: &mut TokenReader<'_>,
@@ -71,6 +73,7 @@ fn literal(
 }
 
 // An expression in round brackets.
+#[cycle(rules)]
 fn parenthesized(
     alloc: Global,
     reader: &mut TokenReader<'_>,
@@ -91,19 +94,7 @@ fn parenthesized(
     })
 }
 
-/// The next token, which must be this mark or word.
-pub fn mark(
-    alloc: Global,
-    reader: &mut TokenReader<'_>,
-    kind: TokenKind,
-) -> Result<Token, TokenFault> {
-    if reader.kind() == kind {
-        reader.take(alloc, Goal::Operator)
-    } else {
-        Err(reader.refusal())
-    }
-}
-
+#[cycle(rules)]
 fn value_of_template(
     alloc: Global,
     reader: &mut TokenReader<'_>,
@@ -119,6 +110,7 @@ fn value_of_template(
 }
 
 // A template and its substitutions.
+#[cycle(rules)]
 fn template(
     alloc: Global,
     reader: &mut TokenReader<'_>,
@@ -148,6 +140,7 @@ fn template(
 }
 
 /// Arguments.
+#[cycle(rules)]
 pub fn arguments(
     alloc: Global,
     reader: &mut TokenReader<'_>,
@@ -198,6 +191,7 @@ fn begins_tail(kind: TokenKind, calls: bool) -> bool {
 }
 
 // A tail, and whether it is a member.
+#[cycle(rules)]
 fn tail(
     alloc: Global,
     reader: &mut TokenReader<'_>,
@@ -244,6 +238,7 @@ fn is_eval(head: &Expr) -> bool {
 }
 
 /// The head, with the tails that follow it.
+#[cycle(rules)]
 pub fn chain(
     alloc: Global,
     reader: &mut TokenReader<'_>,
@@ -282,46 +277,103 @@ pub fn chain(
 }
 
 /// What `new` makes: its head, the members and templates behind it, and arguments where they follow; or `new.target`.
+#[cycle(rules)]
 pub fn made(alloc: Global, reader: &mut TokenReader<'_>, room: u32) -> Result<Value, TokenFault> {
     if room == 0 {
         return Err(reader.refusal());
     }
     let word = mark(alloc, reader, TokenKind::New)?;
     if reader.kind() == TokenKind::Dot {
-        let dot = reader.take(alloc, Goal::Operator)?;
-        let target = mark(alloc, reader, TokenKind::Name)?;
-        if target.text.as_str() != "target" {
-            return Err(TokenFault::Unexpected { at: target.start });
-        }
-        return Ok(leaf(Expr::NewTarget { word, dot, target }, false));
+        return new_target(alloc, reader, word);
     }
-    let head = match reader.kind() {
-        TokenKind::New => made(alloc, reader, room - 1)?,
-        _ => primary(alloc, reader, room - 1)?,
-    };
-    let mut height = head.height;
+    let head = made_head(alloc, reader, room - 1)?;
+    let tails = made_tails(alloc, reader, room - 1)?;
+    let args = made_arguments(alloc, reader, room - 1)?;
+    let height = higher(head.height, higher(tails.height, args.height));
+    let height = above(reader, height, room)?;
+    new_value(alloc, word, head.node, tails.node, args.node, height)
+}
+
+// `new.target`
+fn new_target(
+    alloc: Global,
+    reader: &mut TokenReader<'_>,
+    word: Token,
+) -> Result<Value, TokenFault> {
+    let dot = mark(alloc, reader, TokenKind::Dot)?;
+    let target = mark(alloc, reader, TokenKind::Name)?;
+    if target.text.as_str() != "target" {
+        return Err(TokenFault::Unexpected { at: target.start });
+    }
+    Ok(leaf(Expr::NewTarget { word, dot, target }, false))
+}
+
+#[cycle(rules)]
+fn made_head(alloc: Global, reader: &mut TokenReader<'_>, room: u32) -> Result<Value, TokenFault> {
+    match reader.kind() {
+        TokenKind::New => made(alloc, reader, room),
+        _ => primary(alloc, reader, room),
+    }
+}
+
+// Members and templates.
+#[cycle(rules)]
+fn made_tails(
+    alloc: Global,
+    reader: &mut TokenReader<'_>,
+    room: u32,
+) -> Result<Tall<Items<Tail<Boxed<Expr>>>>, TokenFault> {
+    let mut height = 0;
     let mut tails = Items::new(alloc);
     while begins_tail(reader.kind(), false) {
-        let (next, _) = tail(alloc, reader, room - 1)?;
+        let (next, _) = tail(alloc, reader, room)?;
         height = higher(height, next.height);
         tails.push(next.node)?;
     }
-    let mut rank = NEW;
-    let mut args = None;
-    if reader.kind() == TokenKind::LeftParen {
-        let Tall { node, height: tall } = arguments(alloc, reader, room - 1)?;
-        height = higher(height, tall);
-        args = Some(Boxed::new(alloc, node)?);
-        rank = MADE;
+    Ok(Tall {
+        node: tails,
+        height,
+    })
+}
+
+// Arguments, where they follow.
+#[cycle(rules)]
+fn made_arguments(
+    alloc: Global,
+    reader: &mut TokenReader<'_>,
+    room: u32,
+) -> Result<Tall<Option<Boxed<Bracket<Boxed<Expr>>>>>, TokenFault> {
+    if reader.kind() != TokenKind::LeftParen {
+        return Ok(Tall {
+            node: None,
+            height: 0,
+        });
     }
+    let Tall { node, height } = arguments(alloc, reader, room)?;
+    Ok(Tall {
+        node: Some(Boxed::new(alloc, node)?),
+        height,
+    })
+}
+
+fn new_value(
+    alloc: Global,
+    word: Token,
+    head: Expr,
+    tails: Items<Tail<Boxed<Expr>>>,
+    args: Option<Boxed<Bracket<Boxed<Expr>>>>,
+    height: u32,
+) -> Result<Value, TokenFault> {
+    let rank = if args.is_some() { MADE } else { NEW };
+    let head = Boxed::new(alloc, head)?;
     Ok(Value {
-        height: above(reader, height, room)?,
         node: Expr::New {
             word,
-            head: Boxed::new(alloc, head.node)?,
+            head,
             tails,
             args,
         },
+        height,
         rank,
         is_target: false,
     })

@@ -9,6 +9,7 @@ use sqlite_items::{Boxed, Items};
 use std::alloc::Global;
 
 /// A list by commas, or an expression of another level.
+#[cycle(rules)]
 pub fn expression(
     alloc: Global,
     reader: &mut TokenReader<'_>,
@@ -41,6 +42,7 @@ pub fn expression(
 }
 
 /// An assignment, or an expression of a higher level.
+#[cycle(rules)]
 pub fn assignment(
     alloc: Global,
     reader: &mut TokenReader<'_>,
@@ -54,6 +56,7 @@ pub fn assignment(
 }
 
 // What is assigned to the expression, where it is a target and an operator follows; else the expression.
+#[cycle(rules)]
 fn assigned(
     alloc: Global,
     reader: &mut TokenReader<'_>,
@@ -83,6 +86,7 @@ fn assigned(
 }
 
 // A choice whose first test is given.
+#[cycle(rules)]
 fn choice(
     alloc: Global,
     reader: &mut TokenReader<'_>,
@@ -121,6 +125,7 @@ fn choice(
 }
 
 // Operands with operators of this level and higher ones. Only levels that have an operator here take a turn.
+#[cycle(rules)]
 fn binary(
     alloc: Global,
     reader: &mut TokenReader<'_>,
@@ -136,6 +141,7 @@ fn binary(
 }
 
 // The first operand, and those that follow it by operators of the level.
+#[cycle(rules)]
 fn operands(
     alloc: Global,
     reader: &mut TokenReader<'_>,
@@ -167,6 +173,7 @@ fn operands(
 }
 
 // An operand of a level above this one.
+#[cycle(rules)]
 fn operand_above(
     alloc: Global,
     reader: &mut TokenReader<'_>,

@@ -1,5 +1,5 @@
 //! Functions (ECMA-262, clause 14).
-use crate::chains::mark;
+use crate::marks::mark;
 use crate::statements::statements;
 use crate::tall::{Tall, higher};
 use js_tokens::{Goal, TokenFault, TokenReader};
@@ -8,6 +8,7 @@ use sqlite_items::Items;
 use std::alloc::Global;
 
 /// A function with the word `function`.
+#[cycle(rules)]
 pub fn function(
     alloc: Global,
     reader: &mut TokenReader<'_>,
@@ -77,6 +78,7 @@ fn parameters(
 }
 
 // Statements in braces.
+#[cycle(rules)]
 fn block(
     alloc: Global,
     reader: &mut TokenReader<'_>,

@@ -9,6 +9,7 @@ mod expressions;
 mod fault;
 mod functions;
 mod kinds;
+mod marks;
 mod operands;
 mod patterns;
 mod statements;

@@ -8,6 +8,7 @@ use sqlite_items::Boxed;
 use std::alloc::Global;
 
 /// A power, or what may stand in one.
+#[cycle(rules)]
 pub fn power(alloc: Global, reader: &mut TokenReader<'_>, room: u32) -> Result<Value, TokenFault> {
     let base = unary(alloc, reader, room)?;
     if reader.kind() != TokenKind::Stars || base.rank < UPDATE {
@@ -31,6 +32,7 @@ pub fn power(alloc: Global, reader: &mut TokenReader<'_>, room: u32) -> Result<V
 }
 
 // An operator and its operand, or an expression without one before it.
+#[cycle(rules)]
 fn unary(alloc: Global, reader: &mut TokenReader<'_>, room: u32) -> Result<Value, TokenFault> {
     let kind = reader.kind();
     if !is_unary(kind) {
@@ -57,6 +59,7 @@ fn unary(alloc: Global, reader: &mut TokenReader<'_>, room: u32) -> Result<Value
 }
 
 // A target and `++` or `--` on its line, or the expression alone.
+#[cycle(rules)]
 fn postfix(alloc: Global, reader: &mut TokenReader<'_>, room: u32) -> Result<Value, TokenFault> {
     let first = operand(alloc, reader, room)?;
     if !(first.is_target && is_update(reader.kind()) && !reader.nl_before()) {
@@ -75,6 +78,7 @@ fn postfix(alloc: Global, reader: &mut TokenReader<'_>, room: u32) -> Result<Val
 }
 
 // A chain, what `new` makes, or a primary.
+#[cycle(rules)]
 fn operand(alloc: Global, reader: &mut TokenReader<'_>, room: u32) -> Result<Value, TokenFault> {
     if reader.kind() == TokenKind::New {
         let first = made(alloc, reader, room)?;

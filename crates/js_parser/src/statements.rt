@@ -1,7 +1,7 @@
 //! Statements (ECMA-262, clause 13).
-use crate::chains::mark;
 use crate::expressions::{assignment, expression};
 use crate::functions::function;
+use crate::marks::mark;
 use crate::tall::{Tall, Value, above, higher};
 use js_tokens::{Goal, TokenFault, TokenReader};
 use js_tree::{Function, Further, Init, Pattern, Slot, Stmt, TokenKind};
@@ -9,6 +9,7 @@ use sqlite_items::{Boxed, Items};
 use std::alloc::Global;
 
 /// Statements, up to a `}` or to where no token stands.
+#[cycle(rules)]
 pub fn statements(
     alloc: Global,
     reader: &mut TokenReader<'_>,
@@ -27,6 +28,7 @@ pub fn statements(
     })
 }
 
+#[cycle(rules)]
 fn statement(
     alloc: Global,
     reader: &mut TokenReader<'_>,
@@ -44,6 +46,7 @@ fn statement(
 }
 
 // The declaration of a function.
+#[cycle(rules)]
 fn declaration(
     alloc: Global,
     reader: &mut TokenReader<'_>,
@@ -74,6 +77,7 @@ fn is_named(function: &Function) -> bool {
 }
 
 // The declaration of variables.
+#[cycle(rules)]
 fn variables(
     alloc: Global,
     reader: &mut TokenReader<'_>,
@@ -108,6 +112,7 @@ fn variables(
 }
 
 // A name that is declared, and what it is given.
+#[cycle(rules)]
 fn slot(alloc: Global, reader: &mut TokenReader<'_>, room: u32) -> Result<Tall<Slot>, TokenFault> {
     if room == 0 {
         return Err(reader.refusal());
@@ -132,6 +137,7 @@ fn slot(alloc: Global, reader: &mut TokenReader<'_>, room: u32) -> Result<Tall<S
 }
 
 // The end of a function, with what it gives where that stands on its line.
+#[cycle(rules)]
 fn end_of_function(
     alloc: Global,
     reader: &mut TokenReader<'_>,
@@ -162,6 +168,7 @@ fn end_of_function(
 }
 
 // An expression as a statement.
+#[cycle(rules)]
 fn plain(alloc: Global, reader: &mut TokenReader<'_>, room: u32) -> Result<Tall<Stmt>, TokenFault> {
     let Value {
         node,
