@@ -1,5 +1,5 @@
 //! A token of one kind.
-ghost use Rattle.std.specs.Prelude.{◌≡◌, ◌<◌, true, IfOk, OnErr, length};
+ghost use Rattle.std.specs.Prelude.{◌≡◌, ◌<◌, ◌↔◌, IsTrue, true, false, IfOk, OnErr, length};
 ghost use Rattle.js_tree.specs.declared.token.Token.{Token};
 ghost use Rattle.js_tree.specs.Lexical.{Next};
 ghost use Rattle.js_tree.specs.Pieces.{one, kind as kind_of};
@@ -26,9 +26,16 @@ pub fn mark(
     ensures shorter { IfOk result (λ _. length reader.new.left < length reader.old.left) }
     ensures stays { OnErr result (reader.new ≡ reader.old) }
 {
-    if reader.kind() == kind {
+    if are_same(reader.kind(), kind) {
         reader.take(alloc, Goal::Operator)
     } else {
         Err(reader.refusal())
     }
+}
+
+/// Whether two kinds are one.
+pub fn are_same(a: TokenKind, b: TokenKind) -> bool
+    ensures { IsTrue result ↔ (a ≡ b) }
+{
+    a == b
 }
