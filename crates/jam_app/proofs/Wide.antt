@@ -1,6 +1,7 @@
 -- How large loaded modules are together, and that one application has one size.
 use Rattle.std.proofs.Common.{◌≡◌, ℕ, ◌+◌, ◌<◌, ◌≤◌, List, [], ◌∷◌, length, map, refl, ap, sym, subst, ◌∙◌, arith, sum_by, inl, inr, Option, Result, Ok, Err}
-use Rattle.std.specs.Prelude.{All, Contains, IfSome, IfOk, IfErr}
+use Rattle.std.specs.Prelude.{All, Contains, IfSome, IfOk}
+use Rattle.std.specs.Result.{IfErr, IsErrAnd}
 use Rattle.std.specs.Cmp.Lexicographic.{nat_list_cmp_total}
 use Rattle.std.proofs.lemmas.List.Elements.{All-head, All-tail}
 use Rattle.std.proofs.lemmas.List.Sums.{sum_by-cons}
@@ -124,3 +125,8 @@ pub printed_counts : (n count : ℕ) (r : Result (List ℕ) Stop) → IfErr r (S
 printed_counts n count (Ok text) wide = record { later = omega arith; done = refl; stopped = tt }
 printed_counts n count (Err stop) (inl none) = record { later = omega arith; done = tt; stopped = subst (KeepsCount count count) (sym none) refl }
 printed_counts n count (Err stop) (inr (over, refuses)) = record { later = omega arith; done = tt; stopped = keeps n count stop refuses }
+
+-- a stop that is handed on
+pub handed_wide : {X : Type 0} (n : ℕ) (stop : Stop) (r : Result X Stop) → IsErrAnd r (λ e. e ≡ stop) → StopsWide n stop → IfErr r (StopsWide n)
+handed_wide n stop (Ok x) is wide = absurd is
+handed_wide n stop (Err e) is wide = subst (StopsWide n) (sym is) wide
