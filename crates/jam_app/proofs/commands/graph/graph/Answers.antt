@@ -1,4 +1,5 @@
 use Rattle.std.proofs.Common.{◌≡◌, arith, refl, subst, sym}
+use Rattle.jam_app.specs.Loading.{loaded_size}
 use Rattle.jam_app.specs.Refusals.{IsLoadRefusal, IsRefusal, load}
 use Rattle.jam_app.specs.Stops.{CountsFaults}
 use Rattle.jam_app.proofs.Causes.{any_files, handed_on}
@@ -16,4 +17,6 @@ returns-clause-gives g c =
     printed_gives c.args.operand.now (g.F.Folder.files c.args.folder.now) _ _ c.in_ok-loaded.loaded.items c.printed_edges.result c.in_ok-loaded.ensures.gives c.printed_edges.ensures.text c.printed_edges.ensures.narrow c.printed_edges.ensures.wide
 
 pub returns-clause-counts : goal.returns-clause-counts
-returns-clause-counts g c = subst (λ k. CountsFaults _ k c.printed_edges.result) (sym c.in_ok-loaded.ensures.counts.done) (printed_counts _ _ c.printed_edges.result c.printed_edges.ensures.wide)
+returns-clause-counts g c =
+    let before = g.F.Folder.faults c.args.folder.now in
+    subst (λ k. CountsFaults before k c.printed_edges.result) (sym c.in_ok-loaded.ensures.counts.done) (printed_counts (loaded_size c.in_ok-loaded.loaded.items) before c.printed_edges.result c.printed_edges.ensures.wide)
