@@ -43,14 +43,18 @@ module _ (modules : List ModuleConstraints) (links : List Link) where
       (require h.require (record { constraints = h.constraints; here = h.here; require = h.stands; offset = h.offset; holder = refl }) cl refl)
 
   into_link : (edge : Edge) (r : Require) → IsRequireOf modules edge r → Contains links (record { «module» = edge.caller.module; offset = edge.offset; target = edge.callee.module }) → edge.callee.function ≡ 0 → IsAmong (IsLinkEdge modules) links edge
-  into_link edge r is cl zero_is = (record { «module» = edge.caller.module; offset = edge.offset; target = edge.callee.module }, cl, record {
-    constraints = is.constraints;
-    here = is.here;
-    require = r;
-    stands = is.require;
-    offset = is.offset;
-    edge_is = λ i. record { caller = record { «module» = edge.caller.module; function = sym is.holder i }; offset = edge.offset; callee = record { «module» = edge.callee.module; function = zero_is i } };
-  })
+  into_link edge r is cl zero_is = (
+    record { «module» = edge.caller.module; offset = edge.offset; target = edge.callee.module },
+    cl,
+    record {
+      constraints = is.constraints;
+      here = is.here;
+      require = r;
+      stands = is.require;
+      offset = is.offset;
+      edge_is = λ i. record { caller = record { «module» = edge.caller.module; function = sym is.holder i }; offset = edge.offset; callee = record { «module» = edge.callee.module; function = zero_is i } };
+    },
+  )
 
   module _ (xs found : List Edge) (sites : AddsEdges (IsEdgeBelow (system_of modules links) modules (length modules)) [] xs) (requires_ : AddsEdges (IsAmong (IsLinkEdge modules) links) xs found) where
     pub edges_found : (edge : Edge) → Contains found edge → IsEdge modules links edge

@@ -64,8 +64,8 @@ module _ (a : System ModuleVertex Value) (vs : List ModuleVertex) (rows : List (
           let is : vertex_at vs n ≡ v = get_or_default vs n (at_module 0 Elem) v lt ∙ at in
           let (k, value', h) = solved.all t n lt (subst (λ w. InSolution a t w) (sym is) x) in
           into_flat_map (values_at a.functions rows) (enumerate_from 0 vs) (n, v) (t, v)
-              (let z : 0 + n ≡ n = omega arith in subst (λ j. Contains {X = ℕ × ModuleVertex} (enumerate_from 0 vs) (j, v)) z (enumerated 0 vs n v (slice_get-get_or vs n v lt ∙ ap Some at)))
-              (with_value n k value' (member_from_in k (row rows n) h))
+          (let z : 0 + n ≡ n = omega arith in subst (λ j. Contains {X = ℕ × ModuleVertex} (enumerate_from 0 vs) (j, v)) z (enumerated 0 vs n v (slice_get-get_or vs n v lt ∙ ap Some at)))
+          (with_value n k value' (member_from_in k (row rows n) h))
 
   pub values_are : IsSystemIn (Contains vs) a → (t : Value) (v : ModuleVertex) → Contains {X = Value × ModuleVertex} (values_of a.functions vs rows) (t, v) ↔ ((is_internal v.vertex ≡ false) × InSolution a t v)
   values_are members t v = (found t v, λ h. all members t v h.0 h.1)

@@ -109,10 +109,7 @@ fn params_of(
     Ok(out)
 }
 
-fn all_sites(
-    alloc: Global,
-    parts: &[Part],
-) -> Result<Vec<CallSite<ModuleVertex>>, OutOfMemory>
+fn all_sites(alloc: Global, parts: &[Part]) -> Result<Vec<CallSite<ModuleVertex>>, OutOfMemory>
     ensures { IfOk result (λ out. out.items ≡ of_each (lists_of parts.now) (λ m c. map (application.site_of m) c.sites)) }
 {
     if parts.len() > MOST {
@@ -141,11 +138,7 @@ fn push_sites(
 }
 
 // A site of module m.
-fn site_of(
-    alloc: Global,
-    m: u32,
-    site: &SiteInfo,
-) -> Result<CallSite<ModuleVertex>, OutOfMemory>
+fn site_of(alloc: Global, m: u32, site: &SiteInfo) -> Result<CallSite<ModuleVertex>, OutOfMemory>
     ensures { IfOk result (λ made. made ≡ application.site_of m site.now) }
 {
     let args = args_of(alloc, m, site.offset, site.part, site.args)?;
