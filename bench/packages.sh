@@ -3,11 +3,7 @@
 # three modules, and prints the time of the program over it and how often it asks the system for a
 # package.json: in all, and for how many of them. The counts need strace. Run it after `rt ci`, or
 # after `rt run` in crates/jam_cli.
-set -eu
-program=$(cd "$(dirname "$0")/.." && pwd)/crates/jam_cli/out/jam_cli
-folder=$(mktemp -d)
-trap 'rm -rf "$folder"' EXIT
-cd "$folder"
+. "$(dirname "$0")/folder.sh"
 python3 - "$program" <<'PYTHON'
 import json, os, re, shutil, subprocess, sys, time
 
