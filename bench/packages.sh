@@ -3,11 +3,7 @@
 # three modules, and prints the time of the program over it and how often it asks the system for a
 # package.json: in all, and for how many of them. The counts need strace. Run it after `rt ci`, or
 # after `rt run` in crates/jam_cli.
-set -eu
-program=$(cd "$(dirname "$0")/.." && pwd)/crates/jam_cli/out/jam_cli
-folder=$(mktemp -d)
-trap 'rm -rf "$folder"' EXIT
-cd "$folder"
+. "$(dirname "$0")/folder.sh"
 python3 - "$program" <<'PYTHON'
 import json, os, re, shutil, subprocess, sys, time
 
@@ -23,7 +19,7 @@ def manifest(number):
     return json.dumps({"name": f"p{number}", "version": "1.0.0", "main": "./lib/index", "scripts": scripts, "devDependencies": others}, indent=2)
 
 def module(requires):
-    return "".join(f'var v{i} = require("{text}");\nv{i}.run();\n' for i, text in enumerate(requires)) + "exports.run = function () { };\n"
+    return "".join(f'require("{text}");\n' for text in requires) + f"exports.run{len(requires)} = function () {{ }};\n"
 
 packages = 150
 write("package.json", manifest(9999))
@@ -35,7 +31,7 @@ for i in range(packages):
     write(f"node_modules/p{i}/package.json", manifest(i))
     write(f"node_modules/p{i}/lib/index.js", module(["./a", "./b"] + [f"../../p{k}" for k in near]))
     write(f"node_modules/p{i}/lib/a.js", module(["./b", "./index"] + [f"../../p{k}" for k in near]))
-    write(f"node_modules/p{i}/lib/b.js", module(["./a", ".."] + [f"../../p{k}" for k in near]))
+    write(f"node_modules/p{i}/lib/b.js", module(["./a", "../"] + [f"../../p{k}" for k in near]))
 modules = requires = 0
 for top, _, files in os.walk("."):
     for name in files:

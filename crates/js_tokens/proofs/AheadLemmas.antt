@@ -70,16 +70,6 @@ mark_checks goal.Operand = refl
 mark_checks goal.Operator = refl
 mark_checks goal.Template = refl
 
-word_checks : (g : Goal) → list_all (reads g) word_kinds ≡ true
-word_checks goal.Operand = refl
-word_checks goal.Operator = refl
-word_checks goal.Template = refl
-
-end_reads : (g : Goal) → reads g kinds.End ≡ true
-end_reads goal.Operand = refl
-end_reads goal.Operator = refl
-end_reads goal.Template = refl
-
 head : (text : List ℕ) (n : ℕ) → 0 < n → get_or (take n text) 0 0 ≡ get_or text 0 0
 head text n some = get_or-take n text 0 0 some
 
@@ -143,10 +133,6 @@ one_next g p q r t u a b h k =
     let line : t.nl_before ≡ u.nl_before = a.line ∙ ap (λ (x : ℕ). has_line_end (take x p.left)) gap ∙ sym b.line in
     let start : t.start ≡ u.start = a.start ∙ ap (λ (x : ℕ). p.at + x) gap ∙ sym b.start in
     (λ i. record { text = words i; start = start i; class = e.class i; nl_before = line i }, a.after ∙ (λ i. ahead p (gap i + e.size i)) ∙ sym b.after)
-
--- any two tokens at one place have one line
-pub one_line : (p q r : Place) (t u : Token) → Next p t q → Next p u r → t.nl_before ≡ u.nl_before
-one_line p q r t u a b = a.line ∙ ap (λ (x : ℕ). has_line_end (take x p.left)) (one_longest (IsTrivia p.at) p.left a.gap b.gap a.cut.trivia b.cut.trivia) ∙ sym b.line
 
 -- a mark of one or two bytes at the front of a text
 pub record Marked (text : List ℕ) (k : TokenKind) : Type 0 where

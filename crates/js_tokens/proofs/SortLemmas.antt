@@ -83,9 +83,6 @@ second : (a b : Bool) → (a && b) ≡ true → b ≡ true
 second true b e = e
 second false b e = absurd (true≢false (sym e))
 
-pub mark_sort : (g : Goal) (b next : ℕ) → sort_at g b next ≡ sort.Mark → (b == 46 && is_digit next) ≡ false
-mark_sort g b next e = right_of (is_digit b) (b == 46 && is_digit next) (mark_at g b next e).number
-
 not_both : (a : Bool) → (a && true) ≡ false → not a ≡ true
 not_both true e = absurd (true≢false e)
 not_both false e = refl
@@ -223,6 +220,3 @@ odd_tick b h = grind (arith, nat_tests)
 
 pub odd_digit : (b : ℕ) → is_digit b ≡ true → marks.brackets b ≡ mark_part.Broken
 odd_digit b h = grind (arith, nat_tests)
-
-pub odd_high : (b : ℕ) → nat_le 128 b ≡ true → marks.brackets b ≡ mark_part.Broken
-odd_high b h = grind (arith, nat_tests)

@@ -178,10 +178,3 @@ heads c ((h ∷ t) ∷ ws) e l = both (h == c) (list_any (head_is c) ws) (differ
 
     both : (a b : Bool) → a ≡ false → b ≡ false → (a || b) ≡ false
     both a b f g = ap (λ (x : Bool). x || b) f ∙ g
-
-pub no_letter : (c : ℕ) (text : List ℕ) → c ≡ get_or text 0 0 → 0 < length text → (nat_lt c 97 || nat_lt 122 c) ≡ true → 37 ≡ place_in words text
-no_letter c text e some h = sym (absent words text (other_head c text words e some (heads c words h refl)))
-
-pub no_text : (text : List ℕ) → length text ≡ 0 → 37 ≡ place_in words text
-no_text [] e = refl
-no_text (t ∷ ts) e = absurd (omega (arith, e))

@@ -150,68 +150,23 @@ pub fn mark_next(part: MarkPart, c: u8) -> MarkPart
         MarkPart::Front => brackets(c),
         MarkPart::Dot => step(c, b'.', MarkPart::Dots, MarkPart::Broken),
         MarkPart::Dots => step(c, b'.', MarkPart::Done(7), MarkPart::Broken),
-        MarkPart::Less => step(
-            c,
-            b'<',
-            MarkPart::Left,
-            step(c, b'=', MarkPart::Done(12), MarkPart::Broken),
-        ),
-        MarkPart::Greater => step(
-            c,
-            b'=',
-            MarkPart::Done(13),
-            step(c, b'>', MarkPart::Right, MarkPart::Broken),
-        ),
+        MarkPart::Less => either(c, b'<', MarkPart::Left, b'=', MarkPart::Done(12)),
+        MarkPart::Greater => either(c, b'=', MarkPart::Done(13), b'>', MarkPart::Right),
         MarkPart::Left => step(c, b'=', MarkPart::Done(45), MarkPart::Broken),
-        MarkPart::Right => step(
-            c,
-            b'=',
-            MarkPart::Done(46),
-            step(c, b'>', MarkPart::Unsigned, MarkPart::Broken),
-        ),
+        MarkPart::Right => either(c, b'=', MarkPart::Done(46), b'>', MarkPart::Unsigned),
         MarkPart::Unsigned => step(c, b'=', MarkPart::Done(47), MarkPart::Broken),
-        MarkPart::Equal => step(
-            c,
-            b'=',
-            MarkPart::Equals,
-            step(c, b'>', MarkPart::Done(51), MarkPart::Broken),
-        ),
+        MarkPart::Equal => either(c, b'=', MarkPart::Equals, b'>', MarkPart::Done(51)),
         MarkPart::Equals => step(c, b'=', MarkPart::Done(16), MarkPart::Broken),
         MarkPart::Bang => step(c, b'=', MarkPart::Unequal, MarkPart::Broken),
         MarkPart::Unequal => step(c, b'=', MarkPart::Done(17), MarkPart::Broken),
-        MarkPart::Plus => step(
-            c,
-            b'+',
-            MarkPart::Done(24),
-            step(c, b'=', MarkPart::Done(39), MarkPart::Broken),
-        ),
-        MarkPart::Minus => step(
-            c,
-            b'-',
-            MarkPart::Done(25),
-            step(c, b'=', MarkPart::Done(40), MarkPart::Broken),
-        ),
-        MarkPart::Star => step(
-            c,
-            b'*',
-            MarkPart::Stars,
-            step(c, b'=', MarkPart::Done(41), MarkPart::Broken),
-        ),
+        MarkPart::Plus => either(c, b'+', MarkPart::Done(24), b'=', MarkPart::Done(39)),
+        MarkPart::Minus => either(c, b'-', MarkPart::Done(25), b'=', MarkPart::Done(40)),
+        MarkPart::Star => either(c, b'*', MarkPart::Stars, b'=', MarkPart::Done(41)),
         MarkPart::Stars => step(c, b'=', MarkPart::Done(44), MarkPart::Broken),
         MarkPart::Slash => step(c, b'=', MarkPart::Done(42), MarkPart::Broken),
         MarkPart::Percent => step(c, b'=', MarkPart::Done(43), MarkPart::Broken),
-        MarkPart::And => step(
-            c,
-            b'&',
-            MarkPart::Done(34),
-            step(c, b'=', MarkPart::Done(48), MarkPart::Broken),
-        ),
-        MarkPart::Or => step(
-            c,
-            b'=',
-            MarkPart::Done(49),
-            step(c, b'|', MarkPart::Done(35), MarkPart::Broken),
-        ),
+        MarkPart::And => either(c, b'&', MarkPart::Done(34), b'=', MarkPart::Done(48)),
+        MarkPart::Or => either(c, b'=', MarkPart::Done(49), b'|', MarkPart::Done(35)),
         MarkPart::Caret => step(c, b'=', MarkPart::Done(50), MarkPart::Broken),
         MarkPart::Done(_) => MarkPart::Broken,
         MarkPart::Broken => MarkPart::Broken,
@@ -223,6 +178,13 @@ fn step(c: u8, wanted: u8, to: MarkPart, other: MarkPart) -> MarkPart
     ensures { result ≡ (if c == wanted then to else other) }
 {
     if c == wanted { to } else { other }
+}
+
+// What the byte leads to of two bytes that a mark may go on with.
+fn either(c: u8, one: u8, to: MarkPart, two: u8, other: MarkPart) -> MarkPart
+    ensures { result ≡ (if c == one then to else (if c == two then other else MarkPart.Broken)) }
+{
+    step(c, one, to, step(c, two, other, MarkPart::Broken))
 }
 
 /// Whether a mark may end there.
