@@ -1,5 +1,5 @@
 -- Stops and their causes, over a folder that may tell its files.
-use Rattle.std.proofs.Common.{◌≡◌, ℕ, ◌≤◌, List, ap, sym, subst, ◌∙◌, arith, Option, Some, None, Result, Ok, Err}
+use Rattle.std.proofs.Common.{◌≡◌, ℕ, ◌≤◌, List, ap, sym, subst, ◌∙◌, arith, Bool, Option, Some, None, Result, Ok, Err}
 use Rattle.std.specs.Result.{IfErr, IsErrAnd}
 use Rattle.std.specs.Option.{IfSome}
 use Rattle.jam_base.specs.Causes.{Rose}
@@ -10,8 +10,10 @@ use Rattle.jam_app.specs.declared.answers.refusal.Refusal.{Refusal}
 use Rattle.jam_app.specs.declared.answers.refusal.Refusal.TheVariants as refusal
 use Rattle.jam_app.specs.declared.answers.stop.Stop.{Stop}
 use Rattle.jam_app.specs.declared.answers.stop.Stop.TheVariants.{ReadFault, OutOfMemory, Refused}
-use Rattle.jam_app.specs.Entries.{module_path}
+use Rattle.jam_app.specs.Entries.{begun, module_path}
 use Rattle.jam_app.specs.Refusals.{IsLoadRefusal, no_entry}
+use Rattle.jam_app.specs.declared.audit.report.Output.{Output}
+use Rattle.jam_app.specs.Requests.{Asked}
 use Rattle.jam_app.specs.declared.answers.status.Status.{Status}
 use Rattle.jam_app.specs.declared.answers.status.Status.TheVariants as statuses
 use Rattle.jam_app.specs.declared.answers.status.Status.TheVariants.{Clean, Alarms, WriteFault, NoMemory, Usage}
@@ -54,11 +56,11 @@ refused_stop P owed files before now OutOfMemory is gives = absurd is
 refused_stop P owed files before now (Refused answered line) is gives =
     (told files gives (λ m p. subst (P m) (sym is.0) p), subst (λ r. TellsRefusal r line) (sym is.0) is.1)
 
--- an operand whose target isn't a module
-pub no_module : (operand : List ℕ) (files : Option Files) (before now : ℕ) (stop : Stop) (found : Target) (path : Option (List ℕ)) → IfSome files (λ m. found ≡ entry_target m (Some operand))
-    → path ≡ module_path found → path ≡ None → Refuses refusal.NoEntry stop → HasStopCause (IsLoadRefusal operand) files before now stop
-no_module operand files before now stop found path is named none refuses =
-    refused_stop (IsLoadRefusal operand) refusal.NoEntry files before now stop refuses (told files is (λ m e. no_entry (ap module_path (sym e) ∙ sym named ∙ none)))
+-- an entry whose target isn't a module
+pub no_module : (entry : Option (List ℕ)) (files : Option Files) (before now : ℕ) (stop : Stop) (found : Target) (path : Option (List ℕ)) → IfSome files (λ m. found ≡ entry_target m entry)
+    → path ≡ module_path found → path ≡ None → Refuses refusal.NoEntry stop → HasStopCause (λ m owed. (skip : Bool) → IsLoadRefusal (begun entry skip) m owed) files before now stop
+no_module entry files before now stop found path is named none refuses =
+    refused_stop (λ m owed. (skip : Bool) → IsLoadRefusal (begun entry skip) m owed) refusal.NoEntry files before now stop refuses (told files is (λ m e skip. no_entry (ap module_path (sym e) ∙ sym named ∙ none)))
 
 -- where the count stands still, any stop keeps it
 pub kept_count : (before now : ℕ) (stop : Stop) → now ≡ before → KeepsCount before now stop
@@ -88,11 +90,11 @@ handed_on owed P Q first files before mid now stop (Err e) is same later means c
     subst (HasStopCause Q first before now) (sym is) (stop_after P Q first files before mid now stop same later means cause)
 handed_on owed P Q first files before mid now stop (Ok x) is same later means cause = absurd is
 
--- where a text is owed, no refusal is, so any status will do
-pub refuses_none : (status : Status) (operand text : List ℕ) (files : Option Files) → IfSome files (λ m. IsOwed operand m text) → IfSome files (λ m. RefusesAlways status operand m)
-refuses_none status operand text files is = told files is (λ m owed. unrefused status m owed)
+-- where an output is owed, no refusal is, so any status will do
+pub refuses_none : (status : Status) (asked : Asked) (output : Output) (files : Option Files) → IfSome files (λ m. IsOwed asked m output) → IfSome files (λ m. RefusesAlways status asked m)
+refuses_none status asked output files is = told files is (λ m owed. unrefused status m owed)
   where
-    unrefused : (s : Status) (m : Files) → IsOwed operand m text → RefusesAlways s operand m
+    unrefused : (s : Status) (m : Files) → IsOwed asked m output → RefusesAlways s asked m
     unrefused Clean m owed = owed.unrefused
     unrefused Alarms m owed = owed.unrefused
     unrefused WriteFault m owed = owed.unrefused

@@ -6,6 +6,7 @@ pub mod Following
 pub mod Keeping
 pub mod LinkLemmas
 pub mod OneRefusal
+pub mod Parsed
 pub mod Pieces
 pub mod PrintLemmas
 pub mod Refusing
@@ -15,6 +16,7 @@ pub mod Standing
 pub mod Steps
 pub mod Targets
 pub mod Telling
+pub mod TreeLemmas
 pub mod Whole
 pub mod WholeGraph
 pub mod Wide

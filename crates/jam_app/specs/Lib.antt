@@ -1,9 +1,12 @@
+pub mod AuditFiles
+pub mod Audits
 pub mod BetweenRounds
 pub mod Entries
 pub mod Graphs
 pub mod Lines
 pub mod Links
 pub mod Loading
+pub mod Notes
 pub mod Numbers
 pub mod Outcomes
 pub mod Printing
@@ -11,6 +14,7 @@ pub mod Reading
 pub mod Refusals
 pub mod Requests
 pub mod Rounds
+pub mod Showing
 pub mod Stops
 pub mod Texts
 pub mod Written

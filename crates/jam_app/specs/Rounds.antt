@@ -1,5 +1,5 @@
 -- The rounds in which the modules of an application are loaded.
-use Rattle.std.specs.Prelude.{◌≡◌, ◌↔◌, ◌≤◌, ℕ, ◌+◌, zero, suc, List, [], ◌∷◌, ◌++◌, length, map, All, Contains, slice_get, Some, unwrap_or}
+use Rattle.std.specs.Prelude.{◌≡◌, ◌↔◌, ◌≤◌, ℕ, ◌+◌, zero, suc, Bool, true, List, [], ◌∷◌, ◌++◌, length, map, All, Contains, slice_get, Some, unwrap_or}
 use Rattle.std.specs.List.Sorted.{IsStrictlySortedBy}
 use Rattle.std.specs.Cmp.Lexicographic.{slice_cmp}
 use Rattle.std.specs.Ordering.{nat_cmp}
@@ -11,7 +11,7 @@ use Rattle.flow_rules.specs.Flows.{requires_of}
 use Rattle.node_resolve.specs.declared.target.Target.TheVariants.{Module}
 use Rattle.node_resolve.specs.Targets.{target_of}
 use Rattle.composer.specs.declared.application.Link.{Link}
-use Rattle.jam_app.specs.Texts.{IsSpelled, IsBad}
+use Rattle.jam_app.specs.Texts.{IsSpelled, IsBad, empty_tree}
 
 -- the bytes of the file at a path
 abbrev pub bytes_at : Files → List ℕ → List ℕ
@@ -20,7 +20,7 @@ bytes_at files path = unwrap_or (finite.get files path) []
 -- the tree of a module with these bytes: the one that spells its text, and the empty one where none does
 pub data IsTreeOf (bytes : List ℕ) (tree : Tree) : Type 0 where
   spelled : IsSpelled bytes tree → IsTreeOf bytes tree
-  bad : IsBad bytes → tree ≡ record { body = [] } → IsTreeOf bytes tree
+  bad : IsBad bytes → tree ≡ empty_tree → IsTreeOf bytes tree
 
 -- a require of the module at a path has the module at the target as its target
 pub record IsRequired (files : Files) (path target : List ℕ) : Type 0 where
@@ -57,16 +57,18 @@ pub record IsLoaded (files : Files) (entry path : List ℕ) : Type 0 where
   pub is_round : IsRound files entry number before round
   pub here : Contains round path
 
--- a loaded module: its path, the bytes of its file, and its tree
+-- a loaded module: its path, the bytes of its file, its tree, and whether it is skipped
 pub record LoadedModule : Type 0 where
   pub path : List ℕ
   pub bytes : List ℕ
   pub tree : Tree
+  pub skipped : Bool
 
--- it is the module of the file at its path
+-- it is the module of the file at its path, and skipped exactly where no tree spells its text
 pub record IsModuleOf (files : Files) (m : LoadedModule) : Type 0 where
   pub bytes : m.bytes ≡ bytes_at files m.path
   pub tree : IsTreeOf m.bytes m.tree
+  pub skipped : (m.skipped ≡ true) ↔ IsBad m.bytes
 
 -- the modules of the application with this entry, by their paths
 pub record IsApplication (files : Files) (entry : List ℕ) (modules : List LoadedModule) : Type 0 where

@@ -1,5 +1,5 @@
 -- The text of a module.
-use Rattle.std.specs.Prelude.{◌≡◌, ℕ, Bool, true, List, nat_lt}
+use Rattle.std.specs.Prelude.{◌≡◌, ℕ, Bool, true, false, List, [], nat_lt}
 use Rattle.std.specs.List.{list_all}
 use Rattle.js_tree.specs.declared.tree.Tree.{Tree}
 use Rattle.js_tree.specs.Spells.{Spells}
@@ -21,3 +21,12 @@ pub record IsOnlyTree (bytes : List ℕ) (tree : Tree) : Type 0 where
 -- no tree spells the text in the file
 abbrev pub IsBad : List ℕ → Type 0
 IsBad bytes = (tree : Tree) → IsSpelled bytes tree → ⊥
+
+-- the tree without statements
+abbrev pub empty_tree : Tree
+empty_tree = record { body = [] }
+
+-- the tree that is worked with, and whether the module is skipped: the only one of the text, or the empty one where the text has none, which comes where such modules are skipped alone
+pub data IsTheTree (skip : Bool) (bytes : List ℕ) (tree : Tree) (skipped : Bool) : Type 0 where
+  only : skipped ≡ false → IsOnlyTree bytes tree → IsTheTree skip bytes tree skipped
+  none : skipped ≡ true → skip ≡ true → IsBad bytes → tree ≡ empty_tree → IsTheTree skip bytes tree skipped

@@ -2,6 +2,7 @@
 #![tactic(auto)]
 
 mod answers;
+mod audit;
 mod commands;
 mod law;
 mod loading;
@@ -9,11 +10,15 @@ mod top;
 
 pub use answers::refusal::Refusal;
 pub use answers::status::Status;
+pub use commands::request::{Request, request_of};
+pub use commands::table::Command;
 pub(crate) use answers::stop::Stop;
 pub use law::one_refusal;
 pub use loading::size::BYTE_LIMIT;
 pub use top::{ended_without_words, run};
 
+#[cfg(test)]
+mod audit_tests;
 #[cfg(test)]
 mod constraints_lines;
 #[cfg(test)]

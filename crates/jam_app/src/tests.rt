@@ -1,5 +1,6 @@
 ghost use Rattle.std.specs.Prelude.{◌≡◌, ◌<◌};
 
+use crate::answers::help::help_text;
 use crate::{Status, run};
 use jam_base::{Gate, List, MemFolder, MemKeeper, MemSink, ModulePath, Steps, Text};
 use std::alloc::Global;
@@ -183,14 +184,33 @@ fn an_entry_is_a_file_that_can_be_code(rt: HostRuntime) -> Result<(), Fail> {
 fn words_are_canonical_or_a_usage(rt: HostRuntime) -> Result<(), Fail> {
     let alloc = rt.alloc();
     let refused = "jam: a\\u005cb.js:1:1: not in the profile\n";
+    let no_lock = "jam: no lockfile\n";
+    let help = help_text(alloc)?;
+    let help = help.as_str();
     for (line, number, err) in [
         ("graph a\\b.js", 2, refused),
-        ("graph", 6, ""),
-        ("graph -x", 6, ""),
-        ("graph ", 6, ""),
-        ("audit index.js", 6, ""),
-        ("graph index.js more", 6, ""),
-        ("--help", 6, ""),
+        ("graph --skip-refused none.js", 2, "jam: no entry\n"),
+        ("audit a", 2, no_lock),
+        ("audit a --entry=-x --format=json --skip-refused", 2, no_lock),
+        ("audit --format text --entry b a", 2, no_lock),
+        ("graph", 6, help),
+        ("graph -x", 6, help),
+        ("graph ", 6, help),
+        ("graph index.js more", 6, help),
+        ("graph --entry a b", 6, help),
+        ("graph --skip-refused --skip-refused b", 6, help),
+        ("graph --skip-refused=yes b", 6, help),
+        ("audit", 6, help),
+        ("audit a b", 6, help),
+        ("audit a --entry", 6, help),
+        ("audit a --entry=", 6, help),
+        ("audit a --entry -b", 6, help),
+        ("audit a --entry b --entry=c", 6, help),
+        ("audit a --format xml", 6, help),
+        ("audit a --format=json --format json", 6, help),
+        ("audit a --formats json", 6, help),
+        ("summary a", 6, help),
+        ("--help", 6, help),
     ] {
         let mut bench = set_up(alloc, "a\\b.js", b"?", 0, 0)?;
         let words = words_of(alloc, line)?;
@@ -203,6 +223,14 @@ fn words_are_canonical_or_a_usage(rt: HostRuntime) -> Result<(), Fail> {
         );
         compare(&rt, &bench, &status, number, "", err);
     }
+    Ok(())
+}
+
+#[test]
+fn the_help_text_has_each_command_and_option(rt: HostRuntime) -> Result<(), Fail> {
+    let alloc = rt.alloc();
+    let help = help_text(alloc)?;
+    assert_eq!(rt; help.as_str(), "");
     Ok(())
 }
 

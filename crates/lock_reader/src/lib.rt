@@ -6,10 +6,12 @@ mod entries;
 mod fault;
 mod lock;
 mod owner;
+mod place;
 mod read;
 #[cfg(test)]
 mod tests;
 
 pub use fault::LockFault;
 pub use lock::{Lock, LockEntry};
+pub use owner::within;
 pub use read::read_lock;

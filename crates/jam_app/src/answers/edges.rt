@@ -1,12 +1,11 @@
 //! The call edges of an application, as they are printed.
-ghost use Rattle.std.specs.Prelude.{◌≡◌, ◌≤◌, ◌<◌, ◌++◌, ℕ, List, length, map, take, slice_get, None, Some, All, IfErr, IfOk, OnOk};
-ghost use Rattle.std.specs.Str.{IsAscii};
+ghost use Rattle.std.specs.Prelude.{◌≡◌, ◌≤◌, ◌<◌, ◌++◌, ℕ, Bool, [], Option, List, length, map, take, slice_get, None, Some, All, IfErr, IfOk, OnOk};
 ghost use Rattle.jam_base.specs.Files.{Files};
 ghost use Rattle.jam_app.specs.Graphs as graphs;
 ghost use Rattle.composer.specs.Sizes.{size_limit};
-ghost use Rattle.jam_app.specs.Loading.{IsWhole, loaded_size, module_of};
+ghost use Rattle.jam_app.specs.Loading.{IsAnalysed, IsWhole, loaded_size, module_of};
 ghost use Rattle.jam_app.specs.Printing.{AreOfModule, call_in, edge_among, function_among, printed_of, spot_at, spot_of};
-ghost use Rattle.jam_app.specs.Loading.{IsAnalysed};
+ghost use Rattle.jam_app.specs.Entries.{begun};
 ghost use Rattle.jam_app.specs.Rounds.{Ascend};
 ghost use Rattle.jam_app.specs.Stops.{StopsWide};
 ghost use Rattle.report_text.specs.Graph.{graph_text_of};
@@ -16,6 +15,7 @@ use crate::answers::printed::{Printed, nowhere};
 use crate::loading::links::links_of;
 use crate::loading::loaded::Loaded;
 use crate::loading::parts::{composed, parts_of};
+use crate::loading::text::{TEXT_LIMIT, ascii_text};
 use composer::Graph;
 use jam_base::{Edge, FunctionRef, List, OutOfMemory, Place, Text};
 use report_text::{PathStep, Shown, graph_text};
@@ -25,7 +25,7 @@ use std::alloc::Global;
 pub(crate) fn printed_edges(alloc: Global, loaded: Vec<Loaded>) -> Result<Text, Stop>
     requires sorted { Ascend (map (λ l. l.path) loaded.items) }
     requires analysed { All IsAnalysed loaded.items }
-    ensures text { IfOk result (λ text. (operand : List ℕ) (files : Files) → IsWhole operand files loaded.items → graphs.IsGraphText operand files text) }
+    ensures text { IfOk result (λ text. (entry : Option (List ℕ)) (skip : Bool) (files : Files) (path : List ℕ) → IsWhole (begun entry skip) files path loaded.items → graphs.IsGraphText entry files text) }
     ensures narrow { IfOk result (λ text. loaded_size loaded.items < size_limit) }
     ensures wide { IfErr result (StopsWide (loaded_size loaded.items)) }
 {
@@ -44,8 +44,8 @@ fn printed_graph(alloc: Global, printed: &[Printed], graph: &Graph) -> Result<Te
     graph_text(alloc, &List::of(steps))
 }
 
-// What is printed of the modules.
-fn printed_modules(alloc: Global, loaded: &[Loaded]) -> Result<Vec<Printed>, OutOfMemory>
+/// What is printed of the modules.
+pub(crate) fn printed_modules(alloc: Global, loaded: &[Loaded]) -> Result<Vec<Printed>, OutOfMemory>
     requires { All IsAnalysed loaded.now }
     ensures { IfOk result (λ printed. printed.items ≡ map printed_of (map module_of loaded.now)) }
 {
@@ -61,24 +61,26 @@ fn printed_module(alloc: Global, one: &Loaded) -> Result<Printed, OutOfMemory>
     requires { IsAnalysed one.now }
     ensures { IfOk result (λ printed. printed ≡ printed_of (module_of one.now)) }
 {
-    let text = ascii(one.bytes.as_slice());
+    let text = place_text(one.bytes.as_slice());
     let functions = one.summary.functions();
     Printed::of(alloc, one.path.as_str(), text, functions)
 }
 
-// The text of bytes that are ASCII.
-fn ascii(bytes: &[u8]) -> &str
-    requires { IsAscii bytes.now }
-    ensures { result.now ≡ bytes.now }
+// The text by which places in a file are told.
+fn place_text(bytes: &[u8]) -> &str
+    ensures { result.now ≡ graphs.place_text bytes.now }
 {
-    match str::from_utf8(bytes) {
-        Ok(text) => text,
-        Err(_) => "",
+    if bytes.len() > TEXT_LIMIT {
+        return "";
+    }
+    match ascii_text(bytes) {
+        Some(text) => text,
+        None => "",
     }
 }
 
-// The edges, as they are printed. Edges of one module that stand together take one walk over its text.
-fn shown_edges(
+/// The edges, as they are printed. Edges of one module that stand together take one walk over its text.
+pub(crate) fn shown_edges(
     alloc: Global,
     printed: &[Printed],
     edges: &[Edge],
@@ -94,6 +96,21 @@ fn shown_edges(
         rest = behind;
     }
     Ok(steps)
+}
+
+/// An edge, as it is printed. It takes a walk over the text of its module.
+pub(crate) fn shown_edge(
+    alloc: Global,
+    printed: &[Printed],
+    edge: &Edge,
+) -> Result<PathStep, OutOfMemory>
+    ensures { IfOk result (λ step. step ≡ edge_among printed.now edge.now) }
+{
+    let callee = function_of(alloc, printed, edge.callee)?;
+    match printed.get(edge.caller.module as usize) {
+        None => Ok(stray(alloc, callee)?),
+        Some(caller) => call_of(alloc, caller, edge.offset, callee),
+    }
 }
 
 // How many edges at the front have their caller in module m.
@@ -142,14 +159,34 @@ fn push_stray(
 {
     for edge in edges {
         let callee = function_of(alloc, printed, edge.callee)?;
-        steps.push(PathStep {
-            path: Text::of(alloc, "")?,
-            line: 1,
-            column: 1,
-            callee,
-        })?;
+        steps.push(stray(alloc, callee)?)?;
     }
     Ok(())
+}
+
+// A call of this function in a module that isn't there.
+fn stray(alloc: Global, callee: Shown) -> Result<PathStep, OutOfMemory>
+    ensures { IfOk result (λ step. step ≡ record { path = []; line = 1; column = 1; callee = callee }) }
+{
+    Ok(PathStep {
+        path: Text::of(alloc, "")?,
+        line: 1,
+        column: 1,
+        callee,
+    })
+}
+
+// A call of this function at the offset, as it is printed.
+fn call_of(
+    alloc: Global,
+    caller: &Printed,
+    offset: u32,
+    callee: Shown,
+) -> Result<PathStep, OutOfMemory>
+    ensures { IfOk result (λ step. step ≡ call_in offset callee caller.now) }
+{
+    let place = caller.place(offset);
+    call_at(alloc, caller, &place, callee)
 }
 
 // The offsets of the edges.
@@ -202,8 +239,8 @@ fn call_at(
     })
 }
 
-// The function, as it is printed.
-fn function_of(
+/// The function, as it is printed.
+pub(crate) fn function_of(
     alloc: Global,
     printed: &[Printed],
     function: FunctionRef,

@@ -4,9 +4,9 @@ ghost use Rattle.std.specs.Str.{IsAscii, IsCharBoundary};
 ghost use Rattle.jam_app.specs.Graphs.{nowhere, shown_at};
 ghost use Rattle.jam_app.specs.Printing.{spot_at, spot_of};
 
-use jam_base::{OutOfMemory, Place, Text, places_of};
+use jam_base::{OutOfMemory, Place, Text, place_of, places_of};
 use js_scopes::FunctionInfo;
-use report_text::Shown;
+use report_text::{PathStep, Shown};
 use std::alloc::Global;
 use std::marker::Model;
 
@@ -65,6 +65,14 @@ impl Printed {
         places_within(alloc, self.text.as_str(), offsets)
     }
 
+    /// Where an offset is; one past the end counts as the end.
+    pub(crate) fn place(&self, offset: u32) -> Place
+        ensures { spot_of result ≡ spot_at self.now.text offset }
+    {
+        let text = self.text.as_str();
+        place_of(text, (offset as usize).min(text.len()) as u32)
+    }
+
     /// The function with this number.
     pub(crate) fn function(&self, alloc: Global, number: u32) -> Result<Shown, OutOfMemory>
         ensures { IfOk result (λ shown. shown ≡ unwrap_or (slice_get self.now.functions number) nowhere) }
@@ -86,6 +94,18 @@ pub(crate) fn nowhere(alloc: Global) -> Shown
         column: 1,
         name: Text::from_string(String::new(alloc)),
     }
+}
+
+/// A call edge equal to this one.
+pub(crate) fn copied_step(alloc: Global, step: &PathStep) -> Result<PathStep, OutOfMemory>
+    ensures { IfOk result (λ made. made ≡ step.now) }
+{
+    Ok(PathStep {
+        path: step.path.copy(alloc)?,
+        line: step.line,
+        column: step.column,
+        callee: copied(alloc, &step.callee)?,
+    })
 }
 
 fn copied(alloc: Global, shown: &Shown) -> Result<Shown, OutOfMemory>

@@ -65,8 +65,8 @@ fn push_link(loaded: &[Loaded], m: u32, led: &Led, links: &mut Vec<Link>) -> Res
     Ok(())
 }
 
-// The place of the module with the path.
-fn place_of_path(loaded: &[Loaded], path: &ModulePath) -> Option<u32>
+/// The place of the module with the path.
+pub(crate) fn place_of_path(loaded: &[Loaded], path: &ModulePath) -> Option<u32>
     requires sorted { Ascend (map (λ l. l.path) loaded.now) }
     requires few { length loaded.now ≤ 4294967295 }
     ensures { (place : ℕ) → (result ≡ Some place) ↔ StandsAt loaded.now place path.now }

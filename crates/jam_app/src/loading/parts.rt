@@ -1,6 +1,7 @@
 //! The call graph of loaded modules.
 ghost use Rattle.std.specs.Prelude.{◌≡◌, ◌<◌, map, IfErr, IfOk};
 ghost use Rattle.composer.specs.Edges.{IsEdgeList};
+ghost use Rattle.composer.specs.Graphs.{function_count};
 ghost use Rattle.composer.specs.Parts.{AreByPath, AreLinks, lists_of};
 ghost use Rattle.composer.specs.Sizes.{made_size, size_limit, size_of};
 ghost use Rattle.jam_app.specs.Loading.{part_of};
@@ -32,6 +33,7 @@ pub(crate) fn composed(alloc: Global, parts: &[Part], links: &[Link]) -> Result<
     requires paths { AreByPath parts.now }
     requires links { AreLinks (lists_of parts.now) links.now }
     ensures edges { IfOk result (λ graph. IsEdgeList (lists_of parts.now) links.now graph.edges) }
+    ensures functions { IfOk result (λ graph. graph.functions ≡ function_count (lists_of parts.now)) }
     ensures narrow { IfOk result (λ graph. made_size parts.now < size_limit) }
     ensures wide { IfErr result (StopsWide (made_size parts.now)) }
 {
@@ -58,7 +60,8 @@ fn counted<L: Ledger>(
     requires paths { AreByPath parts.now }
     requires links { AreLinks (lists_of parts.now) links.now }
     requires size { size_of (lists_of parts.now) < size_limit }
-    ensures { IfOk result (λ graph. IsEdgeList (lists_of parts.now) links.now graph.edges) }
+    ensures edges { IfOk result (λ graph. IsEdgeList (lists_of parts.now) links.now graph.edges) }
+    ensures functions { IfOk result (λ graph. graph.functions ≡ function_count (lists_of parts.now)) }
 {
     let mut steps = Steps::<L>::new(blank);
     compose(alloc, parts, links, &mut steps)

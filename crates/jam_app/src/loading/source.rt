@@ -1,6 +1,9 @@
 //! The files of modules.
-ghost use Rattle.std.specs.Prelude.{◌≡◌, ◌≤◌, ◌+◌, ◌++◌, ◌∷◌, [], ℕ, List, length, map, OnOk, Some};
+ghost use Rattle.std.specs.FinMap as finite;
+ghost use Rattle.std.specs.Option.{option_map};
+ghost use Rattle.std.specs.Prelude.{◌≡◌, ◌≤◌, ◌+◌, ◌++◌, ◌∷◌, [], ℕ, Bool, List, length, map, OnOk, Some};
 ghost use Rattle.jam_app.specs.Entries as entries;
+ghost use Rattle.jam_app.specs.Entries.{begun};
 ghost use Rattle.jam_app.specs.Reading.{HasExcess, IsExcess, file_at, file_of, size_of};
 ghost use Rattle.jam_app.specs.Refusals.{IsLoadRefusal};
 ghost use Rattle.jam_app.specs.Rounds.{byte_limit, bytes_at, module_limit};
@@ -30,24 +33,42 @@ pub(crate) fn module_path(target: Target) -> Option<ModulePath>
     }
 }
 
-/// The path of the entry that an operand names: the target of `./` and the operand, if that is a module.
+/// The path of an entry: the target of `./` and its text, if it has one, where that is a module.
 pub(crate) fn entry_path<F: Folder>(
     alloc: Global,
     folder: &mut F,
-    operand: &str,
+    entry: Option<&str>,
 ) -> Result<ModulePath, Stop>
-    ensures gives { Gives (λ m path. entries.entry_path operand.now m ≡ Some path)
-        (IsLoadRefusal operand.now) (F.files folder.old) (F.faults folder.old) (F.faults folder.new) result }
+    ensures gives { Gives (λ m path. entries.entry_path (option_map (λ t. t.now) entry.entry) m ≡ Some path)
+        (λ m owed. (skip : Bool) → IsLoadRefusal (begun (option_map (λ t. t.now) entry.entry) skip) m owed) (F.files folder.old) (F.faults folder.old) (F.faults folder.new) result }
     ensures same { F.files folder.new ≡ F.files folder.old }
     ensures counts { CountsFaults (F.faults folder.old) (F.faults folder.new) result }
 {
-    match entry_of(alloc, folder, Some(operand)) {
+    match entry_of(alloc, folder, entry) {
         Ok(target) => match module_path(target) {
             Some(path) => Ok(path),
             None => Err(no_entry()),
         },
         Err(ResolveFault::ReadFault) => Err(Stop::ReadFault),
         Err(ResolveFault::OutOfMemory) => Err(Stop::OutOfMemory),
+    }
+}
+
+/// The bytes of the file at a path, if there is one.
+pub(crate) fn file_at<F: Folder>(
+    alloc: Global,
+    folder: &mut F,
+    path: &ModulePath,
+) -> Result<Option<Vec<u8>>, Stop>
+    ensures gives { Gives (λ m found. option_map (λ v. v.items) found ≡ finite.get m path.now)
+        (λ m owed. ⊥) (F.files folder.old) (F.faults folder.old) (F.faults folder.new) result }
+    ensures same { F.files folder.new ≡ F.files folder.old }
+    ensures counts { CountsFaults (F.faults folder.old) (F.faults folder.new) result }
+{
+    match folder.read(alloc, path) {
+        Ok(found) => Ok(found),
+        Err(ReadFailed::Failed) => Err(Stop::ReadFault),
+        Err(ReadFailed::OutOfMemory) => Err(Stop::OutOfMemory),
     }
 }
 

@@ -24,8 +24,8 @@ pub(crate) enum Bad {
     OutOfMemory,
 }
 
-// The text of a file, where all its bytes are below 128.
-fn ascii_text(bytes: &[u8]) -> Option<&str>
+/// The text of a file, where all its bytes are below 128.
+pub(crate) fn ascii_text(bytes: &[u8]) -> Option<&str>
     ensures some { IfSome result (λ text. (text.now ≡ bytes.now) × (is_ascii bytes.now ≡ true)) }
     ensures none { IfNone result (is_ascii bytes.now ≡ false) }
 {

@@ -8,6 +8,7 @@ use Rattle.composer.specs.Parts.{AreByPath, AreLinks, lists_of}
 use Rattle.composer.specs.Sizes.{made_size, size_limit}
 use Rattle.report_text.specs.Graph.{graph_text_of}
 use Rattle.jam_app.specs.declared.loading.loaded.Loaded.{Loaded}
+use Rattle.jam_app.specs.Entries.{begun}
 use Rattle.jam_app.specs.Loading.{IsAnalysed, loaded_size, module_of, part_of}
 use Rattle.jam_app.specs.Links.{Adds, LinksBelow}
 use Rattle.jam_app.specs.Printing.{edge_among, printed_of}
@@ -43,12 +44,12 @@ returns-clause-narrow c =
     subst (λ n. n < size_limit) size c.in_ok-graph.ensures.narrow
 
 pub returns-clause-text : goal.returns-clause-text
-returns-clause-text c operand files whole =
+returns-clause-text c entry skip files path whole =
     let loaded = c.args.loaded.items in
     let links = c.in_ok-links.links.items in
     let printed = c.in_ok-printed.printed.items in
     let edges = c.in_ok-graph.graph.edges in
-    graph_owed operand files loaded links printed (lists_of c.as_slice-3.result.now) edges (map (edge_among printed) edges) c.in_ok-printed_graph.field-0
+    graph_owed (begun entry skip) files path loaded links printed (lists_of c.as_slice-3.result.now) edges (map (edge_among printed) edges) c.in_ok-printed_graph.field-0
     (subst (λ ls. Adds (LinksBelow ls (length ls)) [] links) c.as_slice.ensures.value c.in_ok-links.ensures.links)
     (c.in_ok-printed.ensures ∙ ap (λ ls. map printed_of (map module_of ls)) c.as_slice-2.ensures.value)
     (ap lists_of (c.as_slice-3.ensures.value ∙ c.in_ok-parts.ensures) ∙ parts_lists loaded)

@@ -1,19 +1,28 @@
 use Rattle.std.proofs.Common.{◌≡◌, ℕ, map, refl, arith}
 use Rattle.std.specs.Prelude.{All}
-use Rattle.jam_app.specs.Reading.{HasBad, IsRead, source_of}
+use Rattle.jam_app.specs.Loading.{IsKept}
+use Rattle.jam_app.specs.Reading.{HasBad, IsResolved, parsed_of, source_of}
 use Rattle.jam_app.proofs.Bad.{no_fault}
-use Rattle.jam_app.proofs.Causes.{any_files, counts_of, counts_on, handed_on}
+use Rattle.jam_app.proofs.Causes.{any_files, counts_of, counts_on, handed_on, told}
+use Rattle.jam_app.proofs.Parsed.{all_kept, all_spell, sources_same}
 use Rattle.jam_app.proofs.loading.module.modules_of.Goals as goal
+
+pub resolved_round-requires : goal.resolved_round-requires
+resolved_round-requires g c = all_spell c.args.skip c.in_ok-parsed.parsed.items c.in_ok-parsed.ensures.ok.1
+
+pub returns-clause-gives : goal.returns-clause-gives
+returns-clause-gives g c =
+    told (g.F.Folder.files c.args.folder.now) c.resolved_round.ensures.gives (λ m made. ?)
 
 pub returns-in_err-parsed-clause-gives : goal.returns-in_err-parsed-clause-gives
 returns-in_err-parsed-clause-gives g c =
     let files = g.F.Folder.files c.args.folder.now in
     let faults = g.F.Folder.faults c.args.folder.now in
-    handed_on (λ m modules. (map source_of modules.items ≡ c.args.sources.items) × All (IsRead m) modules.items) (λ m owed. HasBad c.args.sources.items owed) (λ m owed. HasBad c.args.sources.items owed) files files faults faults faults c.in_err-parsed.field-0.0 c.from_residual.result
+    handed_on (λ m modules. (map source_of modules.items ≡ c.args.sources.items) × All (IsKept c.args.skip m) modules.items) (λ m owed. HasBad c.args.skip c.args.sources.items owed) (λ m owed. HasBad c.args.skip c.args.sources.items owed) files files faults faults faults c.in_err-parsed.field-0.0 c.from_residual.result
     c.from_residual.ensures.1 refl (omega arith) (any_files files (λ m owed has. has)) (c.in_err-parsed.ensures.err files faults faults)
 
 pub returns-in_err-parsed-clause-counts : goal.returns-in_err-parsed-clause-counts
 returns-in_err-parsed-clause-counts g c =
     let n = g.F.Folder.faults c.args.folder.now in
     counts_on n n n c.in_err-parsed.field-0.0 c.from_residual.result c.from_residual.ensures.1 refl
-    (counts_of {X = ℕ} n c.in_err-parsed.field-0.0 (no_fault (λ m owed. HasBad c.args.sources.items owed) c.in_err-parsed.field-0.0 c.in_err-parsed.ensures.err n))
+    (counts_of {X = ℕ} n c.in_err-parsed.field-0.0 (no_fault (λ m owed. HasBad c.args.skip c.args.sources.items owed) c.in_err-parsed.field-0.0 c.in_err-parsed.ensures.err n))

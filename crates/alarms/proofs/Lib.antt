@@ -1,0 +1,3 @@
+pub mod AddsLemmas
+pub mod SearchLemmas
+pub mod SortLemmas

@@ -1,0 +1,4 @@
+pub mod Affected
+pub mod Alarms
+pub mod Searching
+pub mod Versions

@@ -1,0 +1,2 @@
+use Rattle.lock_reader.proofs.lock.Lock.owner_place.Goals as goal
+
