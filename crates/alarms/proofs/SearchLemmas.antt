@@ -47,9 +47,9 @@ module _ {X Y : Type 0} (P : ℕ → Y → X → Type 0) (ys : List Y) where
   pub below_none : (xs : List X) → Adds (Below P ys 0) xs xs
   below_none xs = Adds-nothing (Below P ys 0) xs (λ x (b : Below P ys 0 x). omega (arith, b.below))
 
-  pub below_more : (n : ℕ) (y : Y) (xs as bs : List X) → slice_get ys n ≡ Some y → Adds (Below P ys n) xs as → Adds (P n y) as bs → Adds (Below P ys (n + 1)) xs bs
-  below_more n y xs as bs here a b =
-      Adds-then (Below P ys n) (P n y) (Below P ys (n + 1)) xs as bs a b
+  pub below_more : (n : ℕ) (y : Y) (xs mid bs : List X) → slice_get ys n ≡ Some y → Adds (Below P ys n) xs mid → Adds (P n y) mid bs → Adds (Below P ys (n + 1)) xs bs
+  below_more n y xs mid bs here a b =
+      Adds-then (Below P ys n) (P n y) (Below P ys (n + 1)) xs mid bs a b
       (λ x (h : Below P ys n x). record { place = h.place; item = h.item; here = h.here; below = omega (arith, h.below); holds = h.holds })
       (λ x h. record { place = n; item = y; here = here; below = omega arith; holds = h })
       split

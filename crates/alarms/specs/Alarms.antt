@@ -43,9 +43,13 @@ pub record AreAlarms (entries : List LockEntry) (advisories : List Advisory) (pa
   pub sorted : IsStrictlySortedBy found_order found
   pub alarms_are : (x : Found) → Contains found x ↔ IsAlarm entries advisories parts reached x
 
--- an installed package has the name of an advisory's package, and no version
+-- an installed package has the name of an advisory's package
+abbrev pub is_advised : List Advisory → LockEntry → Bool
+is_advised advisories entry = list_any (λ advisory. bytes_eq entry.name advisory.package) advisories
+
+-- it has, and no version
 abbrev pub lacks_version : List Advisory → LockEntry → Bool
-lacks_version advisories entry = not (is_some (version_of entry)) && list_any (λ advisory. bytes_eq entry.name advisory.package) advisories
+lacks_version advisories entry = not (is_some (version_of entry)) && is_advised advisories entry
 
 -- the locations of these packages
 abbrev pub unversioned : List Advisory → List LockEntry → List (List ℕ)

@@ -81,7 +81,8 @@ fn push_module(
         inside: inside(entry.location.as_str(), part.path.as_str()),
         functions: part.summary.functions(),
     };
-    owned.push_all(advisories, reach, found)
+    owned.push_all(advisories, reach, found)?;
+    Ok(())
 }
 
 // A module that an installed package owns: the place of the package, its entry and its version, and the

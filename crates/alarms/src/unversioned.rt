@@ -1,12 +1,31 @@
 //! Installed packages whose version can't be told.
-ghost use Rattle.std.specs.Prelude.{◌≡◌, IfOk};
+ghost use Rattle.std.specs.Prelude.{◌≡◌, IfOk, is_some};
 ghost use Rattle.alarms.specs.Alarms as specs_of;
+ghost use Rattle.alarms.specs.Versions.{version_of as version_in_entry};
 
 use crate::version::version_of;
 use advisory_reader::Advisory;
 use jam_base::{OutOfMemory, Text};
 use lock_reader::{Lock, LockEntry};
 use std::alloc::Global;
+
+// Whether the package has a version.
+fn has_version(alloc: Global, entry: &LockEntry) -> Result<bool, OutOfMemory>
+    ensures { IfOk result (λ has. has ≡ is_some (version_in_entry entry.now)) }
+{
+    let version = version_of(alloc, entry)?;
+    Ok(version.is_some())
+}
+
+// Whether the package has the name of an advisory's package.
+fn is_advised(advisories: &[Advisory], entry: &LockEntry) -> bool
+    ensures { result ≡ specs_of.is_advised advisories.now entry.now }
+{
+    let name = entry.name.as_str();
+    advisories
+        .iter()
+        .any(|advisory| name == advisory.package.as_str())
+}
 
 // Whether the package has the name of an advisory's package, and no version.
 fn lacks_version(
@@ -16,13 +35,8 @@ fn lacks_version(
 ) -> Result<bool, OutOfMemory>
     ensures { IfOk result (λ lacks. lacks ≡ specs_of.lacks_version advisories.now entry.now) }
 {
-    if version_of(alloc, entry)?.is_some() {
-        return Ok(false);
-    }
-    let name = entry.name.as_str();
-    Ok(advisories
-        .iter()
-        .any(|advisory| name == advisory.package.as_str()))
+    let has = has_version(alloc, entry)?;
+    Ok(!has && is_advised(advisories, entry))
 }
 
 /// The locations of the installed packages that have the name of an advisory's package and no version, in

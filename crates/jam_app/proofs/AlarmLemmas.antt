@@ -8,6 +8,7 @@ use Rattle.std.proofs.lemmas.Option.{slice_get-map, same_Some, none-some, slice_
 use Rattle.jam_base.specs.declared.edge.Edge.{Edge}
 use Rattle.jam_base.specs.declared.edge.FunctionRef.{FunctionRef}
 use Rattle.jam_base.specs.Files.{Files}
+use Rattle.js_scopes.specs.Scopes.{functions_of}
 use Rattle.flow_rules.specs.Constraints.{ModuleConstraints}
 use Rattle.npm_range.specs.Conditions.{Condition}
 use Rattle.lock_reader.specs.Owner.{IsOwner}
@@ -20,6 +21,7 @@ use Rattle.reach_path.specs.Reached.{IsReachOf, Reached, path_to}
 use Rattle.reach_path.proofs.PathLemmas.{one_path}
 use Rattle.alarms.specs.Alarms as found_alarms
 use Rattle.alarms.specs.Alarms.{found_order}
+use Rattle.alarms.specs.Affected.{inside, names_any}
 use Rattle.alarms.specs.Versions.{concerns, holds_for, version_in}
 use Rattle.alarms.specs.declared.found.Found.{Found}
 use Rattle.report_text.specs.declared.report.Alarm.{Alarm}
@@ -99,10 +101,67 @@ module _ (skip : Bool) (files : Files) (loaded : List Loaded) (kept : All (IsKep
         function_at = ap (λ (c : ModuleConstraints). slice_get c.functions x.function.function) (sym summary.whole) ∙ ap (λ (p : Part). slice_get p.summary.lists.functions x.function.function) at.2 ∙ a.function_at;
         concerned = a.concerned;
         owner = subst (λ (p : Part). IsOwner entries p.path (Some a.entry)) (sym at.2) a.owner;
-        named = ?;
+        named = ap (λ (p : Part). names_any (inside a.entry.location p.path) a.function.name a.advisory.functions) at.2 ∙ a.named;
         version = version.0;
         version_is = version.1;
         path = path.0;
         path_is = reach_is.path x.function path.0 path.1;
         shown_is = shown_as x a.advisory a.entry version.0 path.0 a.advisory_at a.entry_at version.1 path.1;
       }
+
+  from_alarm : (x : Found) (printed_as : Alarm) → IsAlarm entries advisories modules edges begin x printed_as → found_alarms.IsAlarm entries advisories (map part_of loaded) reached x × (shown x ≡ printed_as)
+  from_alarm x printed_as a =
+      let at = loaded_at loaded x.function.module a.in_module a.module_at in
+      let l = at.0 in
+      let summary = (kept_at skip files loaded x.function.module l kept at.1).summary in
+      let reachable : is_some (path_to reach x.function) ≡ true = (reach_is.has x.function).1 (length a.path, a.path_is.level) in
+      let path = some_path (path_to reach x.function) reachable in
+      let same : path.0 ≡ a.path = one_path edges begin x.function path.0 a.path (reach_is.path x.function path.0 path.1) a.path_is in (
+        record {
+          advisory = a.advisory;
+          advisory_at = a.advisory_at;
+          entry = a.entry;
+          entry_at = a.entry_at;
+          part = part_of l;
+          part_at = slice_get-map part_of loaded x.function.module ∙ ap (option_map part_of) at.1;
+          function = a.function;
+          function_at = ap (λ (c : ModuleConstraints). slice_get c.functions x.function.function) summary.whole ∙ ap (λ (m : LoadedModule). slice_get (functions_of m.tree) x.function.function) at.2 ∙ a.function_at;
+          concerned = a.concerned;
+          owner = subst (λ (m : LoadedModule). IsOwner entries m.path (Some a.entry)) (sym at.2) a.owner;
+          reachable = reachable;
+          named = ap (λ (m : LoadedModule). names_any (inside a.entry.location m.path) a.function.name a.advisory.functions) at.2 ∙ a.named;
+        },
+        shown_as x a.advisory a.entry a.version a.path a.advisory_at a.entry_at a.version_is (path.1 ∙ ap Some same) ∙ sym a.shown_is,
+      )
+
+  pair : Found → Found × Alarm
+  pair x = (x, shown x)
+
+  firsts : (found : List Found) → map (λ (a : Found × Alarm). a.0) (map pair found) ≡ found
+  firsts [] = refl
+  firsts (x ∷ xs) = ap (λ ys. x ∷ ys) (firsts xs)
+
+  seconds : (found : List Found) → map (λ (a : Found × Alarm). a.1) (map pair found) ≡ map shown found
+  seconds [] = refl
+  seconds (x ∷ xs) = ap (λ ys. shown x ∷ ys) (seconds xs)
+
+  -- the alarms of the report, and how they are printed
+  pub alarms_are : (found : List Found) → found_alarms.AreAlarms entries advisories (map part_of loaded) reached found
+      → (alarms : List (Found × Alarm)) × AreAlarms entries advisories modules edges begin alarms × (map shown found ≡ map (λ (a : Found × Alarm). a.1) alarms)
+  alarms_are found are = (
+    map pair found,
+    record {
+      sorted = subst (IsStrictlySortedBy found_order) (sym (firsts found)) are.sorted;
+      alarms_are = λ x printed_as. (
+        λ h. (
+          let from = from_map pair found (x, printed_as) h in
+          let same : from.0 ≡ x = ap (λ (p : Found × Alarm). p.0) from.2 in
+          let shows : shown from.0 ≡ printed_as = ap (λ (p : Found × Alarm). p.1) from.2 in
+          let alarm : IsAlarm entries advisories modules edges begin from.0 (shown from.0) = to_alarm from.0 ((are.alarms_are from.0).0 from.1) in
+          subst (λ (y : Found). IsAlarm entries advisories modules edges begin y printed_as) same (subst (IsAlarm entries advisories modules edges begin from.0) shows alarm)
+        ),
+        λ a. (let both = from_alarm x printed_as a in subst (λ (s : Alarm). Contains (map pair found) (x, s)) both.1 (into_map pair found x ((are.alarms_are x).1 both.0))),
+      );
+    },
+    sym (seconds found),
+  )

@@ -60,7 +60,7 @@ pub edges_same : (modules : List LoadedModule) (edges : List Edge) → map (edge
 edges_same modules [] = refl
 edges_same modules (e ∷ es) = λ i. edge_same modules e i ∷ edges_same modules es i
 
-kept_at : (skip : Bool) (files : Files) (loaded : List Loaded) (k : ℕ) (l : Loaded) → All (IsKept skip files) loaded → slice_get loaded k ≡ Some l → IsKept skip files l
+pub kept_at : (skip : Bool) (files : Files) (loaded : List Loaded) (k : ℕ) (l : Loaded) → All (IsKept skip files) loaded → slice_get loaded k ≡ Some l → IsKept skip files l
 kept_at skip files loaded k l all here = subst (IsKept skip files) (get_or_from_slice_get loaded k l l here) (all k l (slice_get_within loaded k l here))
 
 -- the constraints that are kept are those of the trees
@@ -71,7 +71,7 @@ constraints_same skip files (l ∷ ls) all =
     λ i. first.summary.whole i ∷ constraints_same skip files ls (λ k d lt. all (suc k) d (omega (arith, lt))) i
 
 -- a loaded module behind one that is seen
-loaded_at : (loaded : List Loaded) (k : ℕ) (m : LoadedModule) → slice_get (map module_of loaded) k ≡ Some m → (l : Loaded) × (slice_get loaded k ≡ Some l) × (module_of l ≡ m)
+pub loaded_at : (loaded : List Loaded) (k : ℕ) (m : LoadedModule) → slice_get (map module_of loaded) k ≡ Some m → (l : Loaded) × (slice_get loaded k ≡ Some l) × (module_of l ≡ m)
 loaded_at loaded k m e = by (slice_get loaded k) refl
   where
     by : (o : Option Loaded) → slice_get loaded k ≡ o → (l : Loaded) × (slice_get loaded k ≡ Some l) × (module_of l ≡ m)

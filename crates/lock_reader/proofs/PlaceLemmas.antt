@@ -173,22 +173,18 @@ above_next entries path folder next i h within is long lacks none = record {
 -- the owner stands where the nearest folder has an entry that owns the path
 pub owner_found : (entries : List LockEntry) (path folder next : List ℕ) (i place : ℕ) → OwnersAbove entries path folder → i ≤ length folder → next ≡ take i folder → length next ≡ i
     → ((k : ℕ) → i < k → k ≤ length folder → LacksTextAt (47 ∷ []) folder k) → OwnsFrom entries next path (Some place) → IsOwnerAt entries path (Some place)
-owner_found entries path folder next i place h within is long lacks (s, mine) = (
-  s.entry,
-  s.here,
-  contains entries place s.entry s.here,
-  subst (λ l. owns l path ≡ true) (sym s.location_is) mine,
-  λ e c also. (
-    let size : length s.entry.location ≡ i = ap length s.location_is ∙ long in
-    elim (h.above e c also) [
-      | inr empty ↦ omega (arith, ap length empty)
-      | inl lt ↦ elim (short e.location path folder i also h.front lt lacks) [
-        | inl empty ↦ omega (arith, ap length empty)
-        | inr le ↦ omega (arith, le, size)
-      ]
-    ]
-  ),
-)
+owner_found entries path folder next i place h within is long lacks (s, mine) = (s.entry, s.here, (contains entries place s.entry s.here, subst (λ l. owns l path ≡ true) (sym s.location_is) mine, longest))
+  where
+    longest : (e : LockEntry) → Contains entries e → owns e.location path ≡ true → length e.location ≤ length s.entry.location
+    longest e c also =
+        let size : length s.entry.location ≡ i = ap length s.location_is ∙ long in
+        elim (h.above e c also) [
+          | inr empty ↦ omega (arith, ap length empty)
+          | inl lt ↦ elim (short e.location path folder i also h.front lt lacks) [
+            | inl empty ↦ omega (arith, ap length empty)
+            | inr le ↦ omega (arith, le, size)
+          ]
+        ]
 
 -- and without a `/` left, it is the entry of the application folder, or there is none
 pub owner_last : (entries : List LockEntry) (path folder : List ℕ) (result : Option ℕ) → OwnersAbove entries path folder → ((k : ℕ) → k ≤ length folder → LacksTextAt (47 ∷ []) folder k)
@@ -216,9 +212,7 @@ owner_last entries path folder result h lacks from = by result from
     by (Some place) (s, mine) = (
       s.entry,
       s.here,
-      contains entries place s.entry s.here,
-      subst (λ l. owns l path ≡ true) (sym s.location_is) mine,
-      λ e c also. omega (arith, ap length (all_empty e c also)),
+      (contains entries place s.entry s.here, subst (λ l. owns l path ≡ true) (sym s.location_is) mine, λ e c also. omega (arith, ap length (all_empty e c also))),
     )
 
 -- a location that owns the path is a front of it

@@ -1,8 +1,7 @@
-use Rattle.std.proofs.Common.{◌≡◌, ◌↔◌, ℕ, List, Option, Some, rules, of_calls, subst, same_Some}
+use Rattle.std.proofs.Common.{rules, of_calls}
 use Rattle.std.specs.Cmp.Lexicographic.{slice_cmp}
 use Rattle.std.specs.Ordering.{nat_cmp}
 use Rattle.std.proofs.lemmas.Fn.{always_returns_same}
-use Rattle.lock_reader.specs.Lock.{IsAscending}
 use Rattle.lock_reader.specs.declared.lock.LockEntry.{LockEntry}
 use Rattle.lock_reader.proofs.PlaceLemmas.{found_place, no_place, searchable}
 use Rattle.lock_reader.proofs.place.place_of.Goals as goal

@@ -1,0 +1,29 @@
+-- The notes of what is loaded are those of the report.
+use Rattle.std.proofs.Common.{◌≡◌, Bool, List, [], ◌∷◌, ◌++◌, map, length, refl, sym, ap, ◌∙◌}
+use Rattle.std.specs.Prelude.{All, flat_map}
+use Rattle.std.specs.List.{filter_map}
+use Rattle.std.proofs.lemmas.List.Elements.{All-head, All-tail}
+use Rattle.jam_base.specs.Ascending.{ascending}
+use Rattle.jam_base.specs.Files.{Files}
+use Rattle.flow_rules.specs.Constraints.{ModuleConstraints}
+use Rattle.flow_rules.specs.Flows.{notes_of, requires_of}
+use Rattle.lock_reader.specs.declared.lock.LockEntry.{LockEntry}
+use Rattle.advisory_reader.specs.declared.advisory.Advisory.{Advisory}
+use Rattle.alarms.specs.Alarms.{unversioned}
+use Rattle.report_text.specs.declared.report.Note.{Note}
+use Rattle.jam_app.specs.declared.loading.loaded.Loaded.{Loaded}
+use Rattle.jam_app.specs.Graphs.{place_text}
+use Rattle.jam_app.specs.Loading.{IsKept, missing_by, module_of}
+use Rattle.jam_app.specs.Notes.{all_noted, all_notes, is_owned, loaded_notes, lock_noted, missing_noted, module_notes, note_at, noted_of, noted_order, notes_owed, own_noted, skip_noted, unversioned_note}
+
+noted_same : (skip : Bool) (files : Files) (entries : List LockEntry) (l : Loaded) → IsKept skip files l → loaded_notes entries l ≡ module_notes files entries (module_of l)
+noted_same skip files entries l kept = ap (λ ns. map (note_at l.path (place_text l.bytes.items)) (ascending noted_order ns)) (λ i.
+    lock_noted (is_owned entries l.path) ++ map own_noted (ap (λ (c : ModuleConstraints). c.notes) kept.summary.whole i) ++ map missing_noted (kept.missing i) ++ skip_noted l.skipped (length l.bytes.items))
+
+pub notes_same : (skip : Bool) (files : Files) (entries : List LockEntry) (advisories : List Advisory) (loaded : List Loaded) → All (IsKept skip files) loaded
+    → all_notes entries advisories loaded ≡ notes_owed files entries advisories (map module_of loaded)
+notes_same skip files entries advisories loaded kept = ap (λ (ns : List Note). ns ++ map unversioned_note (unversioned advisories entries)) (by loaded kept)
+  where
+    by : (ls : List Loaded) → All (IsKept skip files) ls → flat_map (loaded_notes entries) ls ≡ flat_map (module_notes files entries) (map module_of ls)
+    by [] h = refl
+    by (l ∷ ls) h = λ i. noted_same skip files entries l (All-head (IsKept skip files) l ls h) i ++ by ls (All-tail (IsKept skip files) l ls h) i
