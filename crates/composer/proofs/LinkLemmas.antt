@@ -2,8 +2,9 @@
 use Rattle.std.proofs.Common.{◌≡◌, ℕ, inl, inr, List, [], ◌∷◌, ◌++◌, length, map, refl, sym, ◌∙◌, subst, Some, None}
 use Rattle.std.specs.Prelude.{Contains, Option, slice_get}
 use Rattle.std.specs.Option.{option_map}
+use Rattle.std.specs.List.Sorted.{IsStrictlySortedBy}
 use Rattle.std.proofs.lemmas.List.{length-map}
-use Rattle.std.proofs.lemmas.List.Elements.{Contains-append_cases, Contains-append_left, Contains-append_right}
+use Rattle.std.proofs.lemmas.List.Elements.{All-nil, Contains-append_cases, Contains-append_left, Contains-append_right}
 use Rattle.std.proofs.lemmas.Option.{slice_get-map}
 use Rattle.jam_base.specs.declared.edge.Edge.{Edge}
 use Rattle.flow_rules.specs.Constraints.{ModuleConstraints}
@@ -11,7 +12,7 @@ use Rattle.flow_rules.specs.declared.module.Require.{Require}
 use Rattle.composer.specs.declared.application.Link.{Link}
 use Rattle.composer.specs.declared.application.Part.{Part}
 use Rattle.composer.specs.CallEdges.{link_edge}
-use Rattle.composer.specs.Parts.{lists_of}
+use Rattle.composer.specs.Parts.{AreByPath, AreLinks, IsNamed, lists_of}
 use Rattle.composer.specs.Solved.{AddsEdges, IsLinkEdge}
 use Rattle.composer.proofs.Members.{here, only}
 
@@ -37,3 +38,12 @@ link_adds modules link c holder r xs at stands offset holds = record {
     same e h =
         let c_is : h.constraints ≡ c = one_some h.constraints c (sym h.here ∙ at) in
         (λ i. link_edge link (holds h.require (subst (λ (d : ModuleConstraints). Contains d.requires_ h.require) c_is h.stands) h.offset i)) ∙ sym h.edge_is
+
+-- a part alone goes by its path, and there are no links
+pub alone_by_path : (part : Part) → AreByPath (part ∷ [])
+unfolding IsStrictlySortedBy
+alone_by_path part = (tt, tt)
+
+pub no_links : (modules : List ModuleConstraints) → AreLinks modules []
+unfolding IsStrictlySortedBy
+no_links modules = record { sorted = tt; named = All-nil (IsNamed modules) }

@@ -38,7 +38,15 @@ fn push_link(out: &mut Vec<Edge>, parts: &[Part], link: &Link) -> Result<(), Out
 {
     let requires_ = parts[link.module as usize].summary.requires_();
     let holder = holder_at(requires_, link.offset);
-    out.push(Edge {
+    out.push(link_edge(link, holder))?;
+    Ok(())
+}
+
+// The edge of a link whose require this function holds.
+fn link_edge(link: &Link, holder: u32) -> Edge
+    ensures { result ≡ edges.link_edge link.now holder }
+{
+    Edge {
         caller: FunctionRef {
             module: link.module,
             function: holder,
@@ -48,8 +56,7 @@ fn push_link(out: &mut Vec<Edge>, parts: &[Part], link: &Link) -> Result<(), Out
             module: link.target,
             function: 0,
         },
-    })?;
-    Ok(())
+    }
 }
 
 // The function that holds the require at the offset.

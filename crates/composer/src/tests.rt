@@ -1,3 +1,5 @@
+ghost use Rattle.std.specs.Prelude.{◌≡◌, ◌<◌};
+
 use crate::{Graph, Part, SIZE_LIMIT, compose, size_of};
 use flow_fold::fold;
 use flow_rules::{Constraints, Flow, Require, Vertex};
