@@ -4,12 +4,12 @@ use Rattle.std.specs.Prelude.{All, Contains, slice_get, slice_index}
 use Rattle.std.specs.List.{enumerate_from, flat_map}
 use Rattle.std.proofs.lemmas.List.{length-map}
 use Rattle.std.proofs.lemmas.List.Elements.{All-contains}
-use Rattle.std.proofs.lemmas.Option.{same_Some, slice_get-map, slice_get_within, get_or_from_slice_get}
+use Rattle.std.proofs.lemmas.Option.{slice_get-map, slice_get_cases, slice_get_within, get_or_from_slice_get}
 use Rattle.jam_base.specs.declared.edge.Edge.{Edge}
 use Rattle.jam_base.specs.declared.edge.FunctionRef.{FunctionRef}
 use Rattle.js_scopes.specs.declared.function.FunctionInfo.{FunctionInfo}
 use Rattle.flow_rules.specs.Constraints.{ModuleConstraints}
-use Rattle.flow_rules.specs.Rules.{IsRequire, IsSite, KeepsRules}
+use Rattle.flow_rules.specs.Rules.{AreFunctions, IsRequire, IsSite, KeepsRules}
 use Rattle.composer.specs.declared.application.Link.{Link}
 use Rattle.composer.specs.declared.application.ModuleVertex.{ModuleVertex}
 use Rattle.composer.specs.declared.application.Value.{Value}
@@ -113,14 +113,11 @@ module _ (modules : List ModuleConstraints) (links : List Link) (rules : All Kee
       }
     where
       module_there : (m : ℕ) → m < length modules → (c : ModuleConstraints) × (slice_get modules m ≡ Some c)
-      module_there m lt = by (slice_get modules m) refl
-        where
-          by : (o : Option ModuleConstraints) → slice_get modules m ≡ o → (c : ModuleConstraints) × (slice_get modules m ≡ Some c)
-          by None e = ?
-          by (Some c) e = (c, e)
+      module_there m lt = elim (slice_get_cases modules m).1 [ inl (c, below, e, g) ↦ (c, e) | inr (past, e) ↦ absurd (omega (arith, past, lt)) ]
 
       some : (c : ModuleConstraints) → KeepsRules c → 0 < length c.functions
       some c keeps = by c.functions keeps.ordered.functions
         where
-          by : (fs : List FunctionInfo) → ? → 0 < length fs
-          by fs h = ?
+          by : (fs : List FunctionInfo) → AreFunctions fs → 0 < length fs
+          by [] h = absurd h
+          by (f ∷ fs) h = omega arith

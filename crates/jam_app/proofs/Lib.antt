@@ -2,8 +2,10 @@ pub mod AlarmLemmas
 pub mod Ascending
 pub mod Bad
 pub mod Causes
+pub mod CommandLemmas
 pub mod EdgeEnds
 pub mod Ends
+pub mod FileLemmas
 pub mod Following
 pub mod Keeping
 pub mod LinkLemmas

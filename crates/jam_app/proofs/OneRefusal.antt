@@ -10,9 +10,16 @@ use Rattle.js_tree.specs.Spells.{limit}
 use Rattle.composer.proofs.Members.{here}
 use Rattle.jam_app.specs.declared.answers.refusal.Refusal.{Refusal}
 use Rattle.jam_app.specs.declared.answers.refusal.Refusal.TheVariants as refusal
-use Rattle.jam_app.specs.Refusals.{IsFirstBad, IsOneTooMany, IsReached, IsLoadRefusal, IsRefusal, counted_bytes, load, no_entry, not_in_profile, too_large, too_many, too_wide, without_place}
+use Rattle.jam_app.specs.Refusals.{IsFirstBad, IsOneTooMany, IsReached, IsLoadRefusal, IsRefusal, IsTooWide, ReadsFiles, advisories, counted_bytes, load, lock, no_entry, not_in_profile, too_large, too_many, too_wide, without_place}
 use Rattle.jam_app.specs.Rounds.{Fits, IsApplication, IsRound, bytes_at}
+use Rattle.lock_reader.specs.declared.lock.LockEntry.{LockEntry}
+use Rattle.advisory_reader.specs.declared.advisory.Advisory.{Advisory}
+use Rattle.jam_app.specs.declared.commands.table.Command.{Command}
+use Rattle.jam_app.specs.declared.commands.table.Command.TheVariants as command
+use Rattle.jam_app.specs.AuditFiles.{HasAdvisories, HasLock}
 use Rattle.jam_app.specs.Entries.{Start}
+use Rattle.jam_app.specs.Requests.{Asked, start_of}
+use Rattle.jam_app.proofs.FileLemmas.{advisories_apart, lock_apart, one_advisory, one_lock}
 use Rattle.jam_app.specs.Texts.{IsBad}
 use Rattle.jam_app.proofs.RoundLemmas.{one_round, round_within}
 use Rattle.jam_app.proofs.Whole.{prefix_fits}
@@ -137,7 +144,7 @@ module _ (m : Files) (start : Start) where
     ]
   ]
 
-  one_load : (one other : Refusal) → IsLoadRefusal start m one → IsLoadRefusal start m other → without_place one ≡ without_place other
+  pub one_load : (one other : Refusal) → IsLoadRefusal start m one → IsLoadRefusal start m other → without_place one ≡ without_place other
   one_load one other (no_entry a) (no_entry b) = refl
   one_load one other (no_entry a) (too_many e p b) = absurd (none-some b.reached.entry (sym a ∙ b.reached.found))
   one_load one other (no_entry a) (too_large p b over) = absurd (none-some b.reached.entry (sym a ∙ b.reached.found))
@@ -158,10 +165,32 @@ module _ (m : Files) (start : Start) where
       let same : length (bytes_at m p) ≡ length (bytes_at m q) = ap (λ (x : List ℕ). length (bytes_at m x)) (bad_twice p q a b) in absurd (omega (arith, over, within, same))
   one_load one other (not_in_profile p at a within refused) (not_in_profile q place b small because) = ap (λ (x : List ℕ). refusal.NotInProfile x 0) (bad_twice p q a b)
 
-  pub one_refusal : (one other : Refusal) → IsRefusal start m one → IsRefusal start m other → without_place one ≡ without_place other
-  one_refusal one other (load o a) (load p b) = one_load one other a b
-  one_refusal one other (load o a) (too_wide n b) = absurd (b.unrefused one a)
-  one_refusal one other (too_wide n a) (load p b) = absurd (a.unrefused other b)
-  one_refusal one other (too_wide n a) (too_wide k b) =
+
+-- ---- a request
+
+reads_lock : (k : Command) (operand : List ℕ) (m : Files) → k ≡ command.Audit → ReadsFiles k operand m → (entries : List LockEntry) × (advisories : List Advisory) × HasLock m entries × HasAdvisories m operand advisories
+reads_lock k operand m is reads = subst (λ c. ReadsFiles c operand m) is reads
+
+module _ (m : Files) (asked : Asked) where
+  wide_once : (n k : ℕ) → IsTooWide (start_of asked) m n → IsTooWide (start_of asked) m k → n ≡ k
+  wide_once n k a b =
       let entry : b.entry ≡ a.entry = same_Some b.entry a.entry (sym b.found ∙ a.found) in
-      ap refusal.TooWide (sym (a.size_is b.modules (subst (λ e. IsApplication m e b.modules) entry b.application)) ∙ b.size_is b.modules b.application)
+      sym (a.size_is b.modules (subst (λ e. IsApplication m e b.modules) entry b.application)) ∙ b.size_is b.modules b.application
+
+  pub one_refusal : (one other : Refusal) → IsRefusal asked m one → IsRefusal asked m other → without_place one ≡ without_place other
+  one_refusal one other (lock o e a) (lock p f b) = ap without_place (one_lock m one other a b)
+  one_refusal one other (lock o e a) (advisories p es f l b) = absurd (lock_apart m es one l a)
+  one_refusal one other (lock o e a) (load p r b) = let reads = reads_lock asked.command asked.operand m e r in absurd (lock_apart m reads.0 one reads.2 a)
+  one_refusal one other (lock o e a) (too_wide n r b) = let reads = reads_lock asked.command asked.operand m e r in absurd (lock_apart m reads.0 one reads.2 a)
+  one_refusal one other (advisories o es e l a) (lock p f b) = absurd (lock_apart m es other l b)
+  one_refusal one other (advisories o es e l a) (advisories p fs f k b) = ap without_place (one_advisory m asked.operand one other a b)
+  one_refusal one other (advisories o es e l a) (load p r b) = let reads = reads_lock asked.command asked.operand m e r in absurd (advisories_apart m asked.operand reads.1 one reads.3 a)
+  one_refusal one other (advisories o es e l a) (too_wide n r b) = let reads = reads_lock asked.command asked.operand m e r in absurd (advisories_apart m asked.operand reads.1 one reads.3 a)
+  one_refusal one other (load o r a) (lock p f b) = let reads = reads_lock asked.command asked.operand m f r in absurd (lock_apart m reads.0 other reads.2 b)
+  one_refusal one other (load o r a) (advisories p fs f k b) = let reads = reads_lock asked.command asked.operand m f r in absurd (advisories_apart m asked.operand reads.1 other reads.3 b)
+  one_refusal one other (load o r a) (load p q b) = one_load m (start_of asked) one other a b
+  one_refusal one other (load o r a) (too_wide n q b) = absurd (b.unrefused one a)
+  one_refusal one other (too_wide n r a) (lock p f b) = let reads = reads_lock asked.command asked.operand m f r in absurd (lock_apart m reads.0 other reads.2 b)
+  one_refusal one other (too_wide n r a) (advisories p fs f k b) = let reads = reads_lock asked.command asked.operand m f r in absurd (advisories_apart m asked.operand reads.1 other reads.3 b)
+  one_refusal one other (too_wide n r a) (load p q b) = absurd (a.unrefused other b)
+  one_refusal one other (too_wide n r a) (too_wide k q b) = ap refusal.TooWide (wide_once n k a b)

@@ -9,6 +9,8 @@ use Rattle.jam_base.specs.Files.{Files}
 use Rattle.jam_base.specs.declared.edge.Edge.{Edge}
 use Rattle.js_scopes.specs.Scopes.{functions_of}
 use Rattle.flow_rules.specs.Constraints.{ModuleConstraints}
+use Rattle.flow_rules.specs.Flows.{constraints_of}
+use Rattle.jam_app.specs.Graphs.{constraints_all}
 use Rattle.composer.specs.Edges.{IsEdgeList}
 use Rattle.composer.specs.Graphs.{function_count}
 use Rattle.composer.specs.Parts.{lists_of}
@@ -45,8 +47,9 @@ totals skip files loaded kept = ap function_count (parts_lists loaded ∙ constr
     total : LoadedModule → ℕ
     total m = length (functions_of m.tree)
 
-    by : (ms : List LoadedModule) → ?
-    by ms = ?
+    by : (ms : List LoadedModule) → function_count (constraints_all ms) ≡ function_total ms
+    by [] = refl
+    by (m ∷ ms) = sum_by-cons count (constraints_of m.tree) (constraints_all ms) ∙ ap (λ n. total m + n) (by ms) ∙ sym (sum_by-cons total m ms)
 
 pub report_is : (asked : Asked) (files : Files) (entries : List LockEntry) (advisories : List Advisory) (path : List ℕ) (loaded : List Loaded) (links : List Link) (constraints : List ModuleConstraints) (edges : List Edge) (begin : ℕ) (report : Report)
     → HasLock files entries → HasAdvisories files asked.operand advisories → IsWhole (begun asked.entry asked.skip_refused) files path loaded

@@ -1,5 +1,6 @@
 -- The tree that is worked with.
 use Rattle.std.proofs.Common.{◌≡◌, ◌↔◌, ◌<◌, ◌≤◌, ℕ, Bool, true, false, List, [], length, refl, sym, subst, ◌∙◌, arith, true≢false}
+use Rattle.js_tree.specs.Lexing.{start_of}
 use Rattle.js_tree.specs.Spells.{Spells, SpellsSome}
 use Rattle.js_tree.specs.declared.tree.Tree.{Tree}
 use Rattle.jam_base.specs.Files.{Files}
@@ -33,7 +34,7 @@ not_bad skip bytes tree skipped (none e s b empty) no bad = true≢false (sym s 
 
 -- the empty text has the empty tree
 empty_spells : Spells [] empty_tree
-empty_spells = record { fits = omega arith; well = record { fit = ?; depth = ? }; lexes = ? }
+empty_spells = record { fits = omega arith; well = record { fit = tt; depth = omega arith }; lexes = (start_of [], refl, λ i lt. absurd (omega (arith, lt))) }
 
 -- it spells some text
 pub spells_some : (skip : Bool) (bytes : List ℕ) (tree : Tree) (skipped : Bool) → IsTheTree skip bytes tree skipped → SpellsSome tree

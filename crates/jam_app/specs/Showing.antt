@@ -5,7 +5,7 @@ use Rattle.advisory_reader.specs.declared.advisory.Advisory.{Advisory}
 use Rattle.reach_path.specs.Reached.{IsReachOf, Reached, count_of, path_to}
 use Rattle.alarms.specs.declared.found.Found.{Found}
 use Rattle.report_text.specs.declared.report.Alarm.{Alarm}
-use Rattle.jam_app.specs.declared.audit.alarms.Sources.{Sources}
+use Rattle.jam_app.specs.declared.audit.showing.Sources.{Sources}
 use Rattle.jam_app.specs.Printing.{PrintedModule, edge_among, function_among}
 use Rattle.jam_base.specs.declared.edge.Edge.{Edge}
 use Rattle.flow_rules.specs.Constraints.{ModuleConstraints}

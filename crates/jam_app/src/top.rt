@@ -2,6 +2,7 @@
 ghost use Rattle.std.specs.Prelude.{◌≡◌, ◌≢◌, ◌≤◌, ◌↔◌, ℕ, List, true, IfOk, Some, None};
 ghost use Rattle.jam_base.specs.Causes.{Rose};
 ghost use Rattle.jam_app.specs.Lines.{IsTold, TellsStatus};
+ghost use Rattle.jam_app.specs.declared.commands.table.Command.TheVariants as command;
 ghost use Rattle.jam_app.specs.Requests.{canonical_request as asked_of};
 ghost use Rattle.jam_app.specs.Outcomes.{IsAudit, WhereTold, RefusesRightly, RefusesAlways, Completes, WritesOut, Writes, done_status};
 ghost use Rattle.jam_app.specs.Refusals.{IsRefusal};
@@ -84,9 +85,7 @@ fn write_help<E: Sink>(alloc: Global, err: &mut E)
     ensures front { (text : List ℕ) × TakesFront (E.taken err.old) (E.taken err.new) text }
     ensures later { E.faults err.old ≤ E.faults err.new }
 {
-    if let Ok(text) = help_text(alloc) {
-        let _ = write_all(err, text.as_str().as_bytes());
-    }
+    Line::of(help_text(alloc)).write(err);
 }
 
 // How a run ends: its status, and the line for the error output.
@@ -107,7 +106,7 @@ fn answered<F: Folder, O: Sink, L: Ledger>(
     ensures usage { result.status ≢ Status.Usage }
     ensures read_fault { result.status ≡ Status.ReadFault → Rose (F.faults folder.old) (F.faults folder.new) }
     ensures write_fault { result.status ≡ Status.WriteFault → Rose (O.faults out.old) (O.faults out.new) }
-    ensures alarms { result.status ≡ Status.Alarms → request.now.command ≡ Command.Audit }
+    ensures alarms { result.status ≡ Status.Alarms → request.now.command ≡ command.Audit }
     ensures refuses_rightly { WhereTold (Some request.now) (F.files folder.old) (RefusesRightly result.status) }
     ensures no_read_fault { result.status ≢ Status.ReadFault → F.faults folder.new ≡ F.faults folder.old }
     ensures no_write_fault { result.status ≢ Status.WriteFault → O.faults out.new ≡ O.faults out.old }
@@ -145,7 +144,7 @@ fn output_of<F: Folder, L: Ledger>(
 ) -> Result<Output, Stop>
     ensures gives { Gives (λ m made. IsOwed request.now m made) (IsRefusal request.now)
         (F.files folder.old) (F.faults folder.old) (F.faults folder.new) result }
-    ensures alarmed { IfOk result (λ made. made.alarmed ≡ true → request.now.command ≡ Command.Audit) }
+    ensures alarmed { IfOk result (λ made. made.alarmed ≡ true → request.now.command ≡ command.Audit) }
     ensures same { F.files folder.new ≡ F.files folder.old }
     ensures counts { CountsFaults (F.faults folder.old) (F.faults folder.new) result }
 {

@@ -20,7 +20,7 @@ ghost use Rattle.jam_app.specs.Stops.{StopsWide};
 use crate::Stop;
 use crate::answers::edges::printed_modules;
 use crate::answers::printed::Printed;
-use crate::audit::alarms::{Sources, shown_alarms};
+use crate::audit::showing::{Sources, shown_alarms};
 use crate::audit::notes::notes_of;
 use crate::loading::links::{links_of, place_of_path};
 use crate::loading::loaded::Application;

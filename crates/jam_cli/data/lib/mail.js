@@ -1,0 +1,5 @@
+var template = require("../node_modules/tiny-template");
+
+exports.send = function () {
+  template.render();
+};

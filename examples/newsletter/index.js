@@ -1,0 +1,7 @@
+var mail = require("./lib/mail");
+
+function main() {
+  mail.send();
+}
+
+main();
