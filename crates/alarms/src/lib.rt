@@ -13,6 +13,3 @@ mod version;
 pub use found::Found;
 pub use search::alarms;
 pub use unversioned::locations_without_version;
-
-#[cfg(test)]
-mod tests;

@@ -38,7 +38,15 @@ pub fn alarms(
 {
     let mut found = Vec::new(alloc);
     for m in 0..parts.len() {
-        push_module(alloc, lock, advisories, reach, number(m)?, &parts[m], &mut found)?;
+        push_module(
+            alloc,
+            lock,
+            advisories,
+            reach,
+            number(m)?,
+            &parts[m],
+            &mut found,
+        )?;
     }
     found.sort()?;
     found.dedup();

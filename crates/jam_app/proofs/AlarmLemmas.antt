@@ -154,12 +154,12 @@ module _ (skip : Bool) (files : Files) (loaded : List Loaded) (kept : All (IsKep
       sorted = subst (IsStrictlySortedBy found_order) (sym (firsts found)) are.sorted;
       alarms_are = λ x printed_as. (
         λ h. (
-          let from = from_map pair found (x, printed_as) h in
-          let same : from.0 ≡ x = ap (λ (p : Found × Alarm). p.0) from.2 in
-          let shows : shown from.0 ≡ printed_as = ap (λ (p : Found × Alarm). p.1) from.2 in
-          let alarm : IsAlarm entries advisories modules edges begin from.0 (shown from.0) = to_alarm from.0 ((are.alarms_are from.0).0 from.1) in
-          subst (λ (y : Found). IsAlarm entries advisories modules edges begin y printed_as) same (subst (IsAlarm entries advisories modules edges begin from.0) shows alarm)
-        ),
+            let from = from_map pair found (x, printed_as) h in
+            let same : from.0 ≡ x = ap (λ (p : Found × Alarm). p.0) from.2 in
+            let shows : shown from.0 ≡ printed_as = ap (λ (p : Found × Alarm). p.1) from.2 in
+            let alarm : IsAlarm entries advisories modules edges begin from.0 (shown from.0) = to_alarm from.0 ((are.alarms_are from.0).0 from.1) in
+            subst (λ (y : Found). IsAlarm entries advisories modules edges begin y printed_as) same (subst (IsAlarm entries advisories modules edges begin from.0) shows alarm)
+            ),
         λ a. (let both = from_alarm x printed_as a in subst (λ (s : Alarm). Contains (map pair found) (x, s)) both.1 (into_map pair found x ((are.alarms_are x).1 both.0))),
       );
     },

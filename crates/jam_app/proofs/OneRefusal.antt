@@ -165,7 +165,6 @@ module _ (m : Files) (start : Start) where
       let same : length (bytes_at m p) ≡ length (bytes_at m q) = ap (λ (x : List ℕ). length (bytes_at m x)) (bad_twice p q a b) in absurd (omega (arith, over, within, same))
   one_load one other (not_in_profile p at a within refused) (not_in_profile q place b small because) = ap (λ (x : List ℕ). refusal.NotInProfile x 0) (bad_twice p q a b)
 
-
 -- ---- a request
 
 reads_lock : (k : Command) (operand : List ℕ) (m : Files) → k ≡ command.Audit → ReadsFiles k operand m → (entries : List LockEntry) × (advisories : List Advisory) × HasLock m entries × HasAdvisories m operand advisories

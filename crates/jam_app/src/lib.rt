@@ -10,9 +10,9 @@ mod top;
 
 pub use answers::refusal::Refusal;
 pub use answers::status::Status;
+pub(crate) use answers::stop::Stop;
 pub use commands::request::{Request, request_of};
 pub use commands::table::Command;
-pub(crate) use answers::stop::Stop;
 pub use law::one_refusal;
 pub use loading::size::BYTE_LIMIT;
 pub use top::{ended_without_words, run};

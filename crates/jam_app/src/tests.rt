@@ -191,7 +191,11 @@ fn words_are_canonical_or_a_usage(rt: HostRuntime) -> Result<(), Fail> {
         ("graph a\\b.js", 2, refused),
         ("graph --skip-refused none.js", 2, "jam: no entry\n"),
         ("audit a", 2, no_lock),
-        ("audit a --entry=-x --format=json --skip-refused", 2, no_lock),
+        (
+            "audit a --entry=-x --format=json --skip-refused",
+            2,
+            no_lock,
+        ),
         ("audit --format text --entry b a", 2, no_lock),
         ("graph", 6, help),
         ("graph -x", 6, help),

@@ -107,7 +107,10 @@ pub(crate) fn wrong_advisories(alloc: Global, fault: AdvisoryFault) -> Stop
         AdvisoryFault::Field { index, field } => {
             advised(fault, Line::of(field_line(alloc, index, field)))
         }
-        AdvisoryFault::Range { index, at } => advised(fault, Line::of(range_line(alloc, index, at))),
+        AdvisoryFault::Range { index, at } => advised(
+            fault,
+            Line::of(range_line(alloc, index, at)),
+        ),
         AdvisoryFault::OutOfMemory => Stop::OutOfMemory,
     }
 }

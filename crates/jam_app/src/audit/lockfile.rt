@@ -15,6 +15,7 @@ use lock_reader::{Lock, read_lock};
 use std::alloc::Global;
 
 const SHRINKWRAP: &str = "npm-shrinkwrap.json";
+
 const PACKAGE_LOCK: &str = "package-lock.json";
 
 // A file that is to be the lockfile: its name and its bytes.

@@ -85,11 +85,7 @@ impl Ranked for Noted {
 }
 
 /// What is noted of a module, which an installed package owns or none does, in order.
-pub(crate) fn noted_of(
-    alloc: Global,
-    owned: bool,
-    one: &Loaded,
-) -> Result<Vec<Noted>, OutOfMemory>
+pub(crate) fn noted_of(alloc: Global, owned: bool, one: &Loaded) -> Result<Vec<Noted>, OutOfMemory>
     ensures { IfOk result (λ made. made.items ≡ ascending_of notes.noted_order (notes.all_noted owned one.now)) }
 {
     let mut made = Vec::new(alloc);

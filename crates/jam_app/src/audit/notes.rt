@@ -57,7 +57,13 @@ fn push_module(
     }
     let offsets = offsets_of(alloc, noted.as_slice())?;
     let places = printed.places(alloc, offsets.as_slice())?;
-    push_noted(alloc, printed.path(), noted.as_slice(), places.as_slice(), notes)
+    push_noted(
+        alloc,
+        printed.path(),
+        noted.as_slice(),
+        places.as_slice(),
+        notes,
+    )
 }
 
 // The offsets of what is noted.

@@ -29,7 +29,13 @@ pub(crate) fn audit<F: Folder, L: Ledger>(
 {
     let lock = lock_of(alloc, folder)?;
     let advisories = advisories_of(alloc, folder, request.operand())?;
-    let application = load(alloc, folder, request.start(), request.skips_refused(), steps)?;
+    let application = load(
+        alloc,
+        folder,
+        request.start(),
+        request.skips_refused(),
+        steps,
+    )?;
     let report = report_of(alloc, &lock, advisories.as_slice(), application)?;
     Ok(written_report(alloc, &report, request.is_json())?)
 }

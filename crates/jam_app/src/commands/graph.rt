@@ -26,7 +26,13 @@ pub(crate) fn graph<F: Folder, L: Ledger>(
     ensures same { F.files folder.new ≡ F.files folder.old }
     ensures counts { CountsFaults (F.faults folder.old) (F.faults folder.new) result }
 {
-    let application = load(alloc, folder, request.start(), request.skips_refused(), steps)?;
+    let application = load(
+        alloc,
+        folder,
+        request.start(),
+        request.skips_refused(),
+        steps,
+    )?;
     let text = printed_edges(alloc, application.modules)?;
     Ok(Output {
         text,

@@ -103,7 +103,8 @@ impl Choice {
     /// What it does.
     pub(crate) fn about(self) -> &'static str {
         match self {
-            Choice::Entry => "The file that the application begins with, as `require` would find it",
+            Choice::Entry =>
+                "The file that the application begins with, as `require` would find it",
             Choice::Format => "How the report is written: text or json",
             Choice::SkipRefused => {
                 "Pass over modules outside the profile, with a note, in place of refusing them"

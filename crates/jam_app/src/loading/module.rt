@@ -110,11 +110,7 @@ fn parsed_round<L: Ledger>(
 }
 
 // The module of a file with a tree.
-fn module_with<F: Folder>(
-    alloc: Global,
-    folder: &mut F,
-    parsed: Parsed,
-) -> Result<Loaded, Stop>
+fn module_with<F: Folder>(alloc: Global, folder: &mut F, parsed: Parsed) -> Result<Loaded, Stop>
     requires { SpellsSome parsed.tree }
     ensures gives { Gives (λ m l. (parsed_of l ≡ parsed) × IsResolved m l)
         (λ m owed. ⊥) (F.files folder.old) (F.faults folder.old) (F.faults folder.new) result }

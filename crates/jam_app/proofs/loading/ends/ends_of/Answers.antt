@@ -31,9 +31,9 @@ loop-require-preserved g c =
     record {
       ends = both_told files inv.ends step (λ m ends is. (
         led_more (led_by m c.args.from.now) c.args.requires_.now c.loop-require.require-index r _ _ c.led_to.result
-        c.in_ok-push_led.ensures ends.0 (c.led_to.ensures ∙ ap (λ t. led_to r.offset (module_path t)) is) c.loop-require-test.true c.require-item.is,
+            c.in_ok-push_led.ensures ends.0 (c.led_to.ensures ∙ ap (λ t. led_to r.offset (module_path t)) is) c.loop-require-test.true c.require-item.is,
         led_more (missing_by m c.args.from.now) c.args.requires_.now c.loop-require.require-index r _ _ c.in_ok-missing_of.field-0
-        c.in_ok-push_missing.ensures ends.1 (c.in_ok-missing_of.ensures ∙ ap (missing_of r) is) c.loop-require-test.true c.require-item.is,
+            c.in_ok-push_missing.ensures ends.1 (c.in_ok-missing_of.ensures ∙ ap (missing_of r) is) c.loop-require-test.true c.require-item.is,
       ));
       lead = led_on c.args.requires_.now c.loop-require.require-index r _ _ c.led_to.result c.requires c.loop-require-test.true c.require-item.is
           (subst (λ l. IfSome l (λ x. x.offset ≡ r.offset)) (sym c.led_to.ensures) (led_offset r.offset (module_path target))) c.in_ok-push_led.ensures inv.lead;
