@@ -21,17 +21,17 @@ use Rattle.jam_app.specs.Stops.{HasBadCause, HasStopCause, KeepsCount, StopsFor}
 -- a module that has no tree, where such modules aren't skipped
 pub bad_stop : (skip : Bool) (path bytes : List ℕ) (b : Bad) (files : Option Files) (before now : ℕ) (stop : Stop) → skip ≡ false → HasBadCause bytes b → StopsFor path b stop
     → HasStopCause (λ m owed. (skip ≡ false) × IsRefusedFor path bytes owed) files before now stop
-bad_stop skip path bytes bad.OutOfMemory files before now stop no cause is = subst (HasStopCause (λ m owed. (skip ≡ false) × IsRefusedFor path bytes owed) files before now) (sym is) tt
-bad_stop skip path bytes (bad.TooLarge n) files before now stop no cause is =
-    refused_stop (λ m owed. (skip ≡ false) × IsRefusedFor path bytes owed) (refusal.TooLarge path n) files before now stop is (any_files files (λ m. (no, subst (λ k. IsRefusedFor path bytes (refusal.TooLarge path k)) (sym cause.1) (too_large cause.0))))
-bad_stop skip path bytes (bad.At place) files before now stop no cause is =
-    refused_stop (λ m owed. (skip ≡ false) × IsRefusedFor path bytes owed) (refusal.NotInProfile path place.offset) files before now stop is (any_files files (λ m. (no, not_in_profile place.offset cause.0 cause.1 cause.2)))
+bad_stop skip path bytes bad.OutOfMemory files before now stop unskipped cause is = subst (HasStopCause (λ m owed. (skip ≡ false) × IsRefusedFor path bytes owed) files before now) (sym is) tt
+bad_stop skip path bytes (bad.TooLarge n) files before now stop unskipped cause is =
+    refused_stop (λ m owed. (skip ≡ false) × IsRefusedFor path bytes owed) (refusal.TooLarge path n) files before now stop is (any_files files (λ m. (unskipped, subst (λ k. IsRefusedFor path bytes (refusal.TooLarge path k)) (sym cause.1) (too_large cause.0))))
+bad_stop skip path bytes (bad.At place) files before now stop unskipped cause is =
+    refused_stop (λ m owed. (skip ≡ false) × IsRefusedFor path bytes owed) (refusal.NotInProfile path place.offset) files before now stop is (any_files files (λ m. (unskipped, not_in_profile place.offset cause.0 cause.1 cause.2)))
 
 -- files that have a tree aren't bad, where such files aren't skipped
 none_bad : (skip : Bool) (parsed : List Parsed) (sources : List Source) → skip ≡ false → map (λ (p : Parsed). p.source) parsed ≡ sources → All (IsParsed skip) parsed → All (λ s. IsBad s.bytes.items → ⊥) sources
-none_bad skip parsed sources no are read =
+none_bad skip parsed sources unskipped are read =
     subst (All (λ (s : Source). IsBad s.bytes.items → ⊥)) are
-    (All-map (λ (s : Source). IsBad s.bytes.items → ⊥) (λ (p : Parsed). p.source) parsed (All-weaker (IsParsed skip) (λ p. IsBad p.source.bytes.items → ⊥) (λ p r. not_bad skip p.source.bytes.items p.tree p.skipped r no) parsed read))
+    (All-map (λ (s : Source). IsBad s.bytes.items → ⊥) (λ (p : Parsed). p.source) parsed (All-weaker (IsParsed skip) (λ p. IsBad p.source.bytes.items → ⊥) (λ p r. not_bad skip p.source.bytes.items p.tree p.skipped r unskipped) parsed read))
 
 -- a stop for one file of a round, behind those that have a tree, is one for the round
 pub bad_in : (skip : Bool) (parsed : List Parsed) (sources done : List Source) (source : Source) (behind : List Source) → map (λ (p : Parsed). p.source) parsed ≡ done → All (IsParsed skip) parsed
@@ -42,7 +42,7 @@ bad_in skip parsed sources done source behind are read parts stop cause files be
     by : (s : Stop) → HasStopCause (λ m owed. (skip ≡ false) × IsRefusedFor source.path source.bytes.items owed) files before now s → HasStopCause (λ m owed. HasBad skip sources owed) files before now s
     by stops.ReadFault c = c
     by stops.OutOfMemory c = tt
-    by (stops.Refused owed line) c = (told files c.0 (λ m (no, refused). record { unskipped = no; front = done; source = source; behind = behind; parts = parts; none_bad = none_bad skip parsed done no are read; refused = refused }), c.1)
+    by (stops.Refused owed line) c = (told files c.0 (λ m (unskipped, refused). record { unskipped = unskipped; front = done; source = source; behind = behind; parts = parts; none_bad = none_bad skip parsed done unskipped are read; refused = refused }), c.1)
 
 -- a stop that came with no call of the folder is no fault of it
 pub no_fault : (P : Files → Refusal → Type 0) (stop : Stop) → ((files : Option Files) (before now : ℕ) → HasStopCause P files before now stop) → (n : ℕ) → KeepsCount n n stop

@@ -2,6 +2,7 @@
 use Rattle.std.proofs.Common.{◌≡◌, ℕ, zero, suc, ◌+◌, ◌<◌, ◌≤◌, ◌⊎◌, inl, inr, List, [], ◌∷◌, length, map, refl, sym, ap, subst, ◌∙◌, arith, Option, Some, None}
 use Rattle.std.specs.Prelude.{All, Contains, slice_get, slice_index}
 use Rattle.std.specs.List.{enumerate_from, flat_map}
+use Rattle.std.specs.Option.{option_map}
 use Rattle.std.proofs.lemmas.List.{length-map}
 use Rattle.std.proofs.lemmas.List.Elements.{All-contains}
 use Rattle.std.proofs.lemmas.Option.{slice_get-map, slice_get_cases, slice_get_within, get_or_from_slice_get}
@@ -66,7 +67,7 @@ module _ (modules : List ModuleConstraints) (links : List Link) (rules : All Kee
   at_place f c here lt =
       let within = slice_get_within modules f.module c here in
       let count : slice_index counts f.module ≡ length c.functions =
-      get_or_from_slice_get counts f.module (length c.functions) 0 (slice_get-map (λ (c : ModuleConstraints). length c.functions) modules f.module ∙ ap (λ o. elim o [ None ↦ None | Some (d : ModuleConstraints) ↦ Some (length d.functions) ]) here) in
+      get_or_from_slice_get counts f.module (length c.functions) 0 (slice_get-map (λ (c : ModuleConstraints). length c.functions) modules f.module ∙ ap (option_map (λ (c : ModuleConstraints). length c.functions)) here) in
       record { in_modules = omega (arith, within, length-map modules (λ (c : ModuleConstraints). length c.functions)); in_module = omega (arith, lt, count) }
 
   keeps : (m : ℕ) (c : ModuleConstraints) → slice_get modules m ≡ Some c → KeepsRules c

@@ -65,11 +65,11 @@ module _ (m : Files) (start : Start) where
 
   -- no later round is reached behind a bad module
   later_bad : (b f : List (List ℕ)) (p : List ℕ) (h c g : List (List ℕ)) (q : List ℕ) (k : List (List ℕ)) (r : IsReached start m b f p h) (s : IsReached start m c g q k) → start.skip ≡ false → IsBad (bytes_at m p) → r.number < s.number → ⊥
-  later_bad b f p h c g q k r s no is_bad lt =
+  later_bad b f p h c g q k r s unskipped is_bad lt =
       let all = before_later b f p h c g q k r s lt in
       let inside : Contains c p = subst (λ (ps : List (List ℕ)). Contains ps p) (sym all.1)
       (Contains-append_left (b ++ (f ++ p ∷ h)) all.0 p (Contains-append_right b (f ++ p ∷ h) p (Contains-append_right f (p ∷ h) p (here p h)))) in
-      All-contains (λ (x : List ℕ). IsBad (bytes_at m x) → ⊥) c p (s.none_bad no) inside is_bad
+      All-contains (λ (x : List ℕ). IsBad (bytes_at m x) → ⊥) c p (s.none_bad unskipped) inside is_bad
 
   -- nor behind one that is one too many, where the modules before that round are within the limits
   later_over : (e : List (List ℕ)) (p : List ℕ) (one : IsOneTooMany start m e p) (c g : List (List ℕ)) (q : List ℕ) (k : List (List ℕ)) (s : IsReached start m c g q k) → Fits m c → one.reached.number < s.number → ⊥

@@ -68,12 +68,12 @@ module _ (m : Files) (skip : Bool) (modules : List Loaded) (round paths : List (
 
   -- no module of the round is bad, where such modules aren't skipped
   pub round_none_bad : skip ≡ false → NoneBad m round
-  round_none_bad no = subst (NoneBad m) of.paths (All-map (λ (p : List ℕ). IsBad (bytes_at m p) → ⊥) path_of modules (both modules of.bytes read))
+  round_none_bad unskipped = subst (NoneBad m) of.paths (All-map (λ (p : List ℕ). IsBad (bytes_at m p) → ⊥) path_of modules (both modules of.bytes read))
     where
       both : (ls : List Loaded) → All (λ (l : Loaded). l.bytes.items ≡ bytes_at m l.path) ls → All (IsKept skip m) ls → All (λ (l : Loaded). IsBad (bytes_at m l.path) → ⊥) ls
       both [] b r = All-nil (λ (l : Loaded). IsBad (bytes_at m l.path) → ⊥)
       both (l ∷ ls) b r = All-cons (λ (l : Loaded). IsBad (bytes_at m l.path) → ⊥) l ls
-          (λ h. not_bad skip l.bytes.items l.tree l.skipped (All-head (IsKept skip m) l ls r).tree no (subst IsBad (sym (All-head (λ (l : Loaded). l.bytes.items ≡ bytes_at m l.path) l ls b)) h))
+          (λ h. not_bad skip l.bytes.items l.tree l.skipped (All-head (IsKept skip m) l ls r).tree unskipped (subst IsBad (sym (All-head (λ (l : Loaded). l.bytes.items ≡ bytes_at m l.path) l ls b)) h))
           (both ls (All-tail (λ (l : Loaded). l.bytes.items ≡ bytes_at m l.path) l ls b) (All-tail (IsKept skip m) l ls r))
 
   -- where a require leads is required

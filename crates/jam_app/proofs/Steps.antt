@@ -49,7 +49,7 @@ stands_next m start old new sources modules round paths next stands files are re
       number = suc stands.number;
       before = stands.before ++ round;
       is_round = (stands.before, round, stands.is_round, refl, next_round m start.skip modules round paths of read paths_are stands.before next (found_at new.modules) loaded sorted here);
-      none_bad = λ no. All-append (λ path. IsBad (bytes_at m path) → ⊥) stands.before round (stands.none_bad no) (round_none_bad m start.skip modules round paths of read paths_are no);
+      none_bad = λ unskipped. All-append (λ path. IsBad (bytes_at m path) → ⊥) stands.before round (stands.none_bad unskipped) (round_none_bad m start.skip modules round paths of read paths_are unskipped);
       size = sizes stands.before stands.size;
       here = loaded;
       held = λ path l is. ⊎_elim (λ g. stands.held path l g) (λ g. record {

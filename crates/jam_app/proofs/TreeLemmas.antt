@@ -29,8 +29,8 @@ skipped_iff skip bytes tree skipped (none e s bad empty) = (λ t. bad, λ b. e)
 
 -- where none is skipped there is a tree
 pub not_bad : (skip : Bool) (bytes : List ℕ) (tree : Tree) (skipped : Bool) → IsTheTree skip bytes tree skipped → skip ≡ false → IsBad bytes → ⊥
-not_bad skip bytes tree skipped (only e one) no bad = bad tree one.spelled
-not_bad skip bytes tree skipped (none e s b empty) no bad = true≢false (sym s ∙ no)
+not_bad skip bytes tree skipped (only e one) unskipped bad = bad tree one.spelled
+not_bad skip bytes tree skipped (none e s b empty) unskipped bad = true≢false (sym s ∙ unskipped)
 
 -- the empty text has the empty tree
 empty_spells : Spells [] empty_tree

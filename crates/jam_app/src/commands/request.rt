@@ -89,7 +89,7 @@ pub fn request_of(words: &[Text]) -> Option<Request<'_>>
 
 // What the words say behind what is given.
 fn read<'w>(given: Given<'w>, words: &'w [Text]) -> Option<Given<'w>>
-    ensures { result ≡ requests.read_words given words.now }
+    ensures { result ≡ requests.read_words given.entry words.now }
 {
     let mut given = given;
     for word in words {
@@ -100,7 +100,7 @@ fn read<'w>(given: Given<'w>, words: &'w [Text]) -> Option<Given<'w>>
 
 // What all words ask for, if nothing is missing.
 fn asked(given: Given<'_>) -> Option<Request<'_>>
-    ensures { result ≡ requests.asked_by given }
+    ensures { result ≡ requests.asked_by given.entry }
 {
     if given.awaited.is_some() {
         return None;
