@@ -1,14 +1,1 @@
-pub mod AheadLemmas
-pub mod BoundaryLemmas
-pub mod CutLemmas
-pub mod ExitLemmas
-pub mod ItemLemmas
-pub mod LexLemmas
-pub mod ListLemmas
-pub mod PlaceLemmas
-pub mod RuleLemmas
-pub mod SeesLemmas
-pub mod ShapeLemmas
-pub mod TokenLemmas
-pub mod ViewLemmas
-pub mod WholeLemmas
+pub mod MarkLemmas

@@ -1,23 +1,22 @@
-//! Reads a text as the syntax tree that it spells.
+//! The tree that spells a text (ECMA-262, clauses 11 to 15).
+//!
+//! Read `whole` first, then the rules from outside in: `statements`, `functions`, `expressions`, `operands`, `chains`.
+//! `kinds` has the tests of tokens that choose between rules.
 #![tactic(auto)]
 
-mod arguments;
-mod call;
-mod chars;
+mod chains;
+mod expressions;
 mod fault;
-mod grammar;
-mod head;
-mod knot;
-mod lexer;
-mod path;
-mod rules;
-mod scan;
+mod functions;
+mod kinds;
+mod marks;
+mod operands;
+mod patterns;
+mod statements;
 mod tall;
-mod variables;
 mod whole;
-mod words;
 
-pub use fault::ParseFault;
+pub use fault::{Construct, ParseFault};
 pub use whole::parse;
 
 #[cfg(test)]

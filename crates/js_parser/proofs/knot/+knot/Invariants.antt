@@ -1,4 +1,0 @@
-use Rattle.js_parser.proofs.knot.+knot.Given as goal
-
-abbrev pub decreases-stmts : goal.decreases-stmts
-decreases-stmts l = l.room

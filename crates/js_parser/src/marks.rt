@@ -1,0 +1,41 @@
+//! A token of one kind.
+ghost use Rattle.std.specs.Prelude.{◌≡◌, ◌<◌, ◌↔◌, IsTrue, true, false, IfOk, OnErr, length};
+ghost use Rattle.js_tree.specs.declared.token.Token.{Token};
+ghost use Rattle.js_tree.specs.Lexical.{Next};
+ghost use Rattle.js_tree.specs.Pieces.{one, kind as kind_of};
+ghost use Rattle.js_tree.specs.TokenKinds.{is};
+ghost use Rattle.js_tokens.specs.declared.goal.Goal.TheVariants as goals;
+ghost use Rattle.js_tokens.specs.Ahead.{reads};
+ghost use Rattle.js_tokens.specs.Pieces.{OnlyRead, Any, Anywhere, Moves};
+
+use js_tokens::{Goal, TokenFault, TokenReader};
+use js_tree::{Token, TokenKind};
+use std::alloc::Global;
+
+/// The next token, which must be this mark, word, name or string.
+pub fn mark(
+    alloc: Global,
+    reader: &mut TokenReader<'_>,
+    kind: TokenKind,
+) -> Result<Token, TokenFault>
+    requires plain { reads goals.Operator kind ≡ true }
+    requires some { is TokenKind.End kind ≡ false }
+    ensures found { IfOk result (λ t. Next reader.old t reader.new × (kind_of t ≡ kind)) }
+    ensures only { OnlyRead (one (is kind)) (Any Token) (Anywhere Token) reader.old reader.new result }
+    ensures moves { Moves reader.old reader.new result }
+    ensures shorter { IfOk result (λ _. length reader.new.left < length reader.old.left) }
+    ensures stays { OnErr result (reader.new ≡ reader.old) }
+{
+    if are_same(reader.kind(), kind) {
+        reader.take(alloc, Goal::Operator)
+    } else {
+        Err(reader.refusal())
+    }
+}
+
+/// Whether two kinds are one.
+pub fn are_same(a: TokenKind, b: TokenKind) -> bool
+    ensures { IsTrue result ↔ (a ≡ b) }
+{
+    a == b
+}
