@@ -2,11 +2,7 @@
 # Makes files of 1, 2, 4 and 8 MB of functions that are each called, and prints the time and the peak
 # memory of the program over them, with all call edges printed. Run it after `rt ci`, or after `rt run`
 # in crates/jam_cli.
-set -eu
-program=$(cd "$(dirname "$0")/.." && pwd)/crates/jam_cli/out/jam_cli
-folder=$(mktemp -d)
-trap 'rm -rf "$folder"' EXIT
-cd "$folder"
+. "$(dirname "$0")/folder.sh"
 python3 - "$program" <<'PYTHON'
 import os, resource, subprocess, sys, time
 

@@ -3,11 +3,7 @@
 # of the program over them: one of 8.2 MB whose last call has no `;`, which is read whole and refused,
 # and one of 0.2 MB whose call edges are printed. Run it after `rt ci`, or after `rt run` in
 # crates/jam_cli.
-set -eu
-program=$(cd "$(dirname "$0")/.." && pwd)/crates/jam_cli/out/jam_cli
-folder=$(mktemp -d)
-trap 'rm -rf "$folder"' EXIT
-cd "$folder"
+. "$(dirname "$0")/folder.sh"
 python3 - "$program" <<'PYTHON'
 import os, resource, subprocess, sys, time
 

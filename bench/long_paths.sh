@@ -3,11 +3,7 @@
 # over them, and the peak memory: a wide one, in which each function of 1,000 modules has ten calls, and a
 # long one, in which each function calls the next. The program that is timed is made in a folder of its own;
 # it tests the conditions of `reach` before the time begins, and is proved before it is built.
-set -eu
-top=$(cd "$(dirname "$0")/.." && pwd)
-folder=$(mktemp -d)
-trap 'rm -rf "$folder"' EXIT
-cd "$folder"
+. "$(dirname "$0")/folder.sh"
 git init -q .
 mkdir -p crates/reach_bench/src crates/reach_bench/proofs/ascend crates/reach_bench/proofs/is_few
 for crate in jam_base reach_path; do

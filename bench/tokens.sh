@@ -1,7 +1,8 @@
 #!/bin/sh
-# Prints the bytes per second of the lexer alone over three texts of 8 MB, each read ten times: code as it is written,
-# code with four bytes a token, and the same with Greek names and comments. It builds a small program over a copy of the crates below the lexer, outside the repository;
-# the first run proves them there.
+# Prints the bytes per second of the lexer alone over three texts of 8 MB, each read ten times: code as
+# it is written, code with four bytes a token, and the same with Greek names and comments. It builds a
+# small program over a copy of the crates below the lexer, outside the repository; the first run proves
+# them there.
 set -eu
 top=$(cd "$(dirname "$0")/.." && pwd)
 folder=${1:-$(mktemp -d)}

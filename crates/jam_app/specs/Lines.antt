@@ -31,8 +31,11 @@ no_entry = codes "jam: no entry\n"
 abbrev pub too_many_line : ℕ → ℕ → List ℕ
 too_many_line modules bytes = codes "jam: too many: " ++ (decimal modules ++ (codes " modules, " ++ (decimal bytes ++ codes " bytes\n")))
 
+abbrev pub too_large_text : List ℕ → ℕ → List ℕ
+too_large_text printed n = codes "jam: " ++ (printed ++ (codes ": " ++ (decimal n ++ (codes " bytes, more than " ++ (decimal limit ++ codes "\n")))))
+
 abbrev pub too_large_line : List ℕ → ℕ → List ℕ
-too_large_line path n = codes "jam: " ++ (escaped path ++ (codes ": " ++ (decimal n ++ (codes " bytes, more than " ++ (decimal limit ++ codes "\n")))))
+too_large_line path n = too_large_text (escaped path) n
 
 abbrev pub place_text : List ℕ → ℕ → ℕ → List ℕ
 place_text path line column = escaped path ++ (codes ":" ++ (decimal line ++ (codes ":" ++ decimal column)))

@@ -1,16 +1,15 @@
 -- The token that stands next, by either reading of `/` and `}`.
-use Rattle.std.proofs.Common.{◌≡◌, ℕ, zero, suc, ◌+◌, ◌-◌, ◌<◌, ◌≤◌, ◌==◌, ◌&&◌, ◌||◌, not, nat_lt, ⊎_elim, ◌⊎◌, inl, inr, Bool, true, false, List, [], ◌∷◌, length, take, drop, get_or, refl, sym, ap, ◌∙◌, subst, arith, true≢false, if◌then◌else◌}
-use Rattle.std.proofs.lemmas.Bool.Decides.{nat_tests}
+use Rattle.std.proofs.Common.{◌≡◌, ℕ, zero, suc, ◌+◌, ◌<◌, ◌≤◌, ◌==◌, ◌&&◌, ◌||◌, not, ⊎_elim, ◌⊎◌, inl, inr, Bool, true, false, List, [], ◌∷◌, length, take, drop, get_or, refl, sym, ap, ◌∙◌, subst, arith, true≢false, if◌then◌else◌}
 use Rattle.std.proofs.lemmas.List.{length-take-le, get_or-take}
 use Rattle.std.proofs.lemmas.Slice.Eq.{bytes_eq-Decides}
 use Rattle.std.specs.List.{list_any, list_all, fold}
 use Rattle.std.specs.Str.{bytes_eq}
-use Rattle.js_tree.specs.Lexical.{Stands, Reaches, IsTrivia, IsCut, Next, has_line_end, is_fresh}
+use Rattle.js_tree.specs.Lexical.{Stands, Reaches, IsTrivia, Next, has_line_end, is_fresh}
 use Rattle.js_tree.specs.Lexical.Mark.{marks, is_mark}
 use Rattle.js_tree.specs.Lexical.Template as template
-use Rattle.js_tree.specs.Lexing.{Longest, Place, ahead, is_word, place_in, words}
+use Rattle.js_tree.specs.Lexing.{Place, ahead, place_in, words}
 use Rattle.js_tree.specs.Pieces.{kind}
-use Rattle.js_tree.specs.TokenKinds.{kind_of, word_kinds, mark_kinds}
+use Rattle.js_tree.specs.TokenKinds.{kind_of, word_kinds}
 use Rattle.js_tree.specs.declared.token.Token.{Token}
 use Rattle.js_tree.specs.declared.token.TokenClass.{TokenClass}
 use Rattle.js_tree.specs.declared.token.TokenClass.TheVariants as class
@@ -21,7 +20,7 @@ use Rattle.js_tokens.proofs.MarkLemmas.{accepted, mark_ascii}
 use Rattle.js_tokens.proofs.SortLemmas.{regex_begins, begins_mark, same_number}
 use Rattle.js_tokens.proofs.TokenLemmas.{sorted, one_token}
 use Rattle.js_tokens.specs.Ahead.{reads, IsTwin}
-use Rattle.js_tokens.specs.Fronts.{admits, StandsFor, sort_of, sort_at}
+use Rattle.js_tokens.specs.Fronts.{admits, StandsFor}
 use Rattle.js_tokens.specs.Marks as marks
 use Rattle.js_tokens.specs.Places.{IsCutFor}
 use Rattle.js_tokens.specs.declared.goal.Goal.{Goal}
@@ -70,16 +69,6 @@ unfolding same
 mark_checks goal.Operand = refl
 mark_checks goal.Operator = refl
 mark_checks goal.Template = refl
-
-word_checks : (g : Goal) → list_all (reads g) word_kinds ≡ true
-word_checks goal.Operand = refl
-word_checks goal.Operator = refl
-word_checks goal.Template = refl
-
-end_reads : (g : Goal) → reads g kinds.End ≡ true
-end_reads goal.Operand = refl
-end_reads goal.Operator = refl
-end_reads goal.Template = refl
 
 head : (text : List ℕ) (n : ℕ) → 0 < n → get_or (take n text) 0 0 ≡ get_or text 0 0
 head text n some = get_or-take n text 0 0 some
@@ -144,10 +133,6 @@ one_next g p q r t u a b h k =
     let line : t.nl_before ≡ u.nl_before = a.line ∙ ap (λ (x : ℕ). has_line_end (take x p.left)) gap ∙ sym b.line in
     let start : t.start ≡ u.start = a.start ∙ ap (λ (x : ℕ). p.at + x) gap ∙ sym b.start in
     (λ i. record { text = words i; start = start i; class = e.class i; nl_before = line i }, a.after ∙ (λ i. ahead p (gap i + e.size i)) ∙ sym b.after)
-
--- any two tokens at one place have one line
-pub one_line : (p q r : Place) (t u : Token) → Next p t q → Next p u r → t.nl_before ≡ u.nl_before
-one_line p q r t u a b = a.line ∙ ap (λ (x : ℕ). has_line_end (take x p.left)) (one_longest (IsTrivia p.at) p.left a.gap b.gap a.cut.trivia b.cut.trivia) ∙ sym b.line
 
 -- a mark of one or two bytes at the front of a text
 pub record Marked (text : List ℕ) (k : TokenKind) : Type 0 where

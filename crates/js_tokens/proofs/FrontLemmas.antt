@@ -1,8 +1,8 @@
 -- The token at the front of a text.
-use Rattle.std.proofs.Common.{◌≡◌, ℕ, zero, suc, ◌+◌, ◌-◌, ◌<◌, ◌≤◌, ◌==◌, ◌&&◌, Bool, true, false, ⊎_elim, List, [], ◌∷◌, ◌++◌, length, take, drop, get_or, refl, sym, ap, ◌∙◌, subst, arith, true≢false}
+use Rattle.std.proofs.Common.{◌≡◌, ℕ, zero, suc, ◌+◌, ◌-◌, ◌<◌, ◌≤◌, ◌==◌, ◌&&◌, Bool, true, false, ⊎_elim, List, [], ◌∷◌, length, take, drop, get_or, refl, sym, ap, ◌∙◌, subst, arith, true≢false}
 use Rattle.std.proofs.lemmas.Bool.{cases_order}
 use Rattle.std.proofs.lemmas.Bool.Decides.{nat_tests}
-use Rattle.std.proofs.lemmas.List.{get_or-take, length-take-le, drop_all}
+use Rattle.std.proofs.lemmas.List.{get_or-take, drop_all}
 use Rattle.std.proofs.lemmas.Str.{chars-nil, chars_past_char, IsUtf8-drop, IsCharBoundary-after_ascii}
 use Rattle.std.specs.Str.{IsUtf8, IsCharBoundary, chars, bytes_eq}
 use Rattle.js_tree.specs.Lexical.{IsNumber, IsIdentifier}
@@ -20,20 +20,16 @@ use Rattle.js_tokens.specs.Placed.{IsPlaced}
 use Rattle.js_tokens.specs.Reading.{IsCharAt}
 use Rattle.js_tokens.specs.declared.mark.MarkPart.TheVariants as mark_part
 use Rattle.js_tokens.specs.declared.reach.MarkEnd.{MarkEnd}
-use Rattle.std.proofs.lemmas.List.Sums.{fold-append, fold_more}
-use Rattle.std.proofs.Math.Seq.{take-add}
+use Rattle.std.proofs.lemmas.List.Sums.{fold_more}
 use Rattle.std.specs.List.{fold}
-use Rattle.js_tree.specs.Lexical.{Stands, Reaches, IsRight, Reads, ReadsBytes, IsClosed, IsLast, IsBefore, IsRegex, are_right}
+use Rattle.js_tree.specs.Lexical.{Stands, Reaches, ReadsBytes, IsClosed, IsRegex, are_right}
 use Rattle.js_tree.specs.Lexical.Character.{is_quote, is_digit}
 use Rattle.js_tree.specs.Lexical.Quoted as quoted
-use Rattle.js_tree.specs.Lexical.Template as template
 use Rattle.js_tree.specs.Lexing.{Longest}
 use Rattle.js_tree.specs.declared.part.StringPart.TheVariants as quoted_part
-use Rattle.js_tree.specs.declared.part.TemplatePart.{TemplatePart}
-use Rattle.js_tree.specs.declared.part.TemplatePart.TheVariants as template_part
 use Rattle.js_tree.specs.declared.token.TokenClass.{TokenClass}
 use Rattle.js_tree.specs.declared.token.TokenClass.TheVariants as class
-use Rattle.js_tokens.specs.Fronts.{sort_of, DoesntClose}
+use Rattle.js_tokens.specs.Fronts.{sort_of}
 use Rattle.js_tokens.specs.Reading.{Reached}
 use Rattle.js_tokens.specs.declared.goal.Sort.{Sort}
 use Rattle.js_tokens.specs.declared.goal.Sort.TheVariants as sort

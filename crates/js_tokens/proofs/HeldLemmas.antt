@@ -1,9 +1,7 @@
 -- What is held of the next token.
-use Rattle.std.proofs.Common.{◌≡◌, ℕ, zero, suc, ◌+◌, ◌-◌, ◌<◌, ◌≤◌, ◌^◌, ◌&&◌, nat_lt, not, ⊎_elim, ◌⊎◌, inl, inr, Bool, true, false, List, [], ◌∷◌, length, take, drop, get_or, refl, sym, ap, ◌∙◌, subst, arith, true≢false, Result, Ok, Err}
-use Rattle.std.proofs.lemmas.Bool.{cases_order}
+use Rattle.std.proofs.Common.{◌≡◌, ℕ, zero, suc, ◌+◌, ◌-◌, ◌<◌, ◌≤◌, ◌^◌, ◌&&◌, nat_lt, ⊎_elim, ◌⊎◌, inl, inr, Bool, true, false, List, [], ◌∷◌, length, take, drop, get_or, refl, sym, ap, ◌∙◌, subst, arith, true≢false, Ok, Err}
 use Rattle.std.proofs.lemmas.Bool.Decides.{nat_tests}
 use Rattle.std.proofs.lemmas.List.{length-drop}
-use Rattle.std.proofs.Math.Seq.{take-length}
 use Rattle.std.specs.List.{list_all}
 use Rattle.js_tree.specs.Lexical.{Stands, IsTrivia, Next, has_line_end, is_fresh}
 use Rattle.js_tree.specs.Lexical.Mark.{marks}
@@ -16,11 +14,11 @@ use Rattle.js_tree.specs.declared.token.TokenClass.TheVariants as class
 use Rattle.js_tree.specs.declared.token_kind.TokenKind.{TokenKind}
 use Rattle.js_tree.specs.declared.token_kind.TokenKind.TheVariants as kinds
 use Rattle.js_tokens.proofs.FrontLemmas.{one_longest}
-use Rattle.js_tokens.proofs.AheadLemmas.{each, some_size, Twin, twin, one_next, one_line, cut_for, none_at_end, admits_reads}
+use Rattle.js_tokens.proofs.AheadLemmas.{each, some_size, Twin, twin, one_next, cut_for, none_at_end, admits_reads}
 use Rattle.js_tokens.specs.Ahead.{offset_of, reads, IsTwin, IsNextKind, IsNextLine, IsNextFor, NoneFor, IsHeld}
 use Rattle.js_tokens.specs.Fronts.{StandsFor}
-use Rattle.js_tokens.specs.Pieces.{IsNextStart, OnlyRead, Any, Anywhere, Reads}
-use Rattle.js_tokens.specs.Places.{IsRaw, IsCutFor, IsEnd, IsOfCut, IsFault, NoToken, behind}
+use Rattle.js_tokens.specs.Pieces.{OnlyRead, Any, Anywhere, Reads}
+use Rattle.js_tokens.specs.Places.{IsRaw, IsCutFor, IsEnd, IsFault, NoToken}
 use Rattle.js_tokens.specs.declared.fault.TokenFault.{TokenFault}
 use Rattle.js_tokens.specs.declared.fault.LexFault.{LexFault}
 use Rattle.js_tokens.specs.declared.fault.LexFault.TheVariants as fault
@@ -204,21 +202,6 @@ no_twin _ h = h
 pub nothing_next : (p : Place) (k : TokenKind) → IsNextKind p k → k ≡ kinds.End → (t : Token) (q : Place) → Next p t q → ⊥
 nothing_next p k is e t q a =
     ⊎_elim (λ (same : kind t ≡ k). kind_some p q t a (same ∙ e)) (λ (w : IsTwin (kind t) k). no_twin (kind t) (subst (λ (x : TokenKind). IsTwin (kind t) x) e w)) (is.all t q a)
-
--- a place is at the end of the text where its trivia ends it
-pub at_end_by : (p : Place) (start : ℕ) → IsNextStart p start → (start - p.at ≡ length p.left → IsTrivia p.at p.left) × (IsTrivia p.at p.left → start - p.at ≡ length p.left)
-at_end_by p start s = (λ e. whole (omega (arith, e, s.place)), λ h. reached h)
-  where
-    all : take (length p.left) p.left ≡ p.left
-    all = take-length p.left
-
-    whole : s.gap ≡ length p.left → IsTrivia p.at p.left
-    whole e = subst (IsTrivia p.at) (ap (λ (n : ℕ). take n p.left) e ∙ all) s.trivia.holds
-
-    reached : IsTrivia p.at p.left → start - p.at ≡ length p.left
-    reached h = ⊎_elim (λ (e : s.gap ≡ length p.left). omega (arith, e, s.place))
-        (⊎_elim (λ (lt : s.gap < length p.left). absurd (s.trivia.none_longer (length p.left) lt (omega arith) (subst (IsTrivia p.at) (sym all) h))) (λ (gt : length p.left < s.gap). absurd (omega (arith, gt, s.trivia.within))))
-        (cases_order s.gap (length p.left))
 
 -- what is taken where a token of the goal stands next
 pub record Taken (g : Goal) (p q : Place) (t : Token) : Type 0 where

@@ -2,15 +2,14 @@
 use Rattle.std.proofs.Common.{◌≡◌, ℕ, suc, drop-cons, ◌+◌, ◌-◌, ◌<◌, ◌≤◌, Bool, true, false, if◌then◌else◌, ⊎_elim, List, [], ◌∷◌, ◌++◌, length, take, drop, get_or, refl, sym, ap, ◌∙◌, subst, arith, true≢false, append-nil, append_assoc, length-append}
 use Rattle.std.proofs.lemmas.Bool.{cases_order}
 use Rattle.std.proofs.lemmas.Bool.Decides.{nat_tests}
-use Rattle.std.proofs.lemmas.List.{length-take, length-take-le, drop-take, take-take, take_more, length-drop, take_all, take-append-drop}
+use Rattle.std.proofs.lemmas.List.{length-take-le, drop-take, take-take, length-drop, take-append-drop}
 use Rattle.std.proofs.lemmas.List.Sums.{fold-append, fold_more}
 use Rattle.std.proofs.Math.Seq.{take-add}
-use Rattle.std.proofs.lemmas.Str.{encode_ascii, chars-append, chars_past_char, chars-nil, IsUtf8-append, IsUtf8-encode, IsUtf8-nil, IsUtf8-drop, IsCharBoundary-from_take, length-encode, len_utf8_bounds, encode_same}
+use Rattle.std.proofs.lemmas.Str.{encode_ascii, chars-append, chars_past_char, chars-nil, IsUtf8-append, IsUtf8-encode, IsUtf8-nil, IsUtf8-drop, IsCharBoundary-from_take, length-encode, encode_same}
 use Rattle.std.specs.Char.{encode_utf8, IsScalar, len_utf8}
 use Rattle.std.specs.List.{fold}
 use Rattle.std.specs.Str.{IsUtf8, chars, encode_utf8_all}
 use Rattle.js_tree.specs.Lexical.{Reads, ReadsBytes}
-use Rattle.js_tree.specs.Lexing.{Longest}
 use Rattle.js_tokens.specs.Reading.{IsCharAt, Sofar, SofarBytes, Reached}
 
 -- a longer front of the text goes on with the character at n

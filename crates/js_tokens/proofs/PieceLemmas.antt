@@ -1,15 +1,15 @@
 -- Tests of the token that stands next, and refusals that are handed on.
-use Rattle.std.proofs.Common.{◌≡◌, ⊎_elim, ◌⊎◌, Bool, true, false, List, ◌∷◌, refl, sym, ap, ◌∙◌, subst, true≢false, Result, Ok, Err, IfOk}
+use Rattle.std.proofs.Common.{◌≡◌, ⊎_elim, ◌⊎◌, Bool, true, false, List, ◌∷◌, sym, ap, ◌∙◌, subst, true≢false, Result, Ok, Err}
 use Rattle.std.specs.Result.{IsErrAnd}
-use Rattle.js_tree.specs.Lexical.{Next, LexesTo}
+use Rattle.js_tree.specs.Lexical.{Next}
 use Rattle.js_tree.specs.Lexing.{Place}
 use Rattle.js_tree.specs.Pieces.{Piece, Tok, kind}
 use Rattle.js_tree.specs.declared.token.Token.{Token}
 use Rattle.js_tree.specs.declared.token_kind.TokenKind.{TokenKind}
 use Rattle.js_tree.specs.declared.token_kind.TokenKind.TheVariants as kinds
-use Rattle.js_tokens.proofs.AheadLemmas.{Twin, twin, one_next}
+use Rattle.js_tokens.proofs.AheadLemmas.{twin, one_next}
 use Rattle.js_tokens.specs.Ahead.{Blind, IsTwin, IsNextKind}
-use Rattle.js_tokens.specs.Pieces.{Reads, Gives, Begins, Ends, Stops, Passes, Moves, Refuses}
+use Rattle.js_tokens.specs.Pieces.{Gives, Begins, Stops}
 use Rattle.js_tokens.specs.declared.fault.TokenFault.{TokenFault}
 use Rattle.js_tokens.specs.declared.fault.TokenFault.TheVariants as fault
 use Rattle.js_tokens.specs.declared.goal.Goal.TheVariants as goal

@@ -1,14 +1,12 @@
 -- What stands behind the trivia of a place.
-use Rattle.std.proofs.Common.{◌≡◌, ℕ, zero, suc, ◌+◌, ◌-◌, ◌<◌, ◌≤◌, ◌==◌, ◌||◌, Bool, true, false, ⊎_elim, inl, inr, List, [], ◌∷◌, length, take, drop, get_or, refl, sym, ap, ◌∙◌, subst, arith, true≢false, if◌then◌else◌}
+use Rattle.std.proofs.Common.{◌≡◌, ℕ, zero, suc, ◌+◌, ◌-◌, ◌<◌, ◌≤◌, ◌==◌, ◌||◌, Bool, true, false, inl, inr, List, [], length, take, drop, get_or, refl, sym, ap, ◌∙◌, subst, arith, true≢false, if◌then◌else◌}
 use Rattle.std.proofs.lemmas.Bool.Decides.{nat_tests}
 use Rattle.std.proofs.lemmas.List.{length-take-le, length-drop, drop_all}
 use Rattle.std.proofs.lemmas.Str.{chars-nil, IsUtf8-nil, IsUtf8-drop, IsCharBoundary-after_ascii, IsCharBoundary-from_take, IsCharBoundary-from_rest}
-use Rattle.std.specs.List.{fold, list_all, list_any}
-use Rattle.std.specs.Str.{IsUtf8, IsCharBoundary, chars, bytes_eq}
-use Rattle.std.proofs.lemmas.Slice.Eq.{bytes_eq-Decides}
-use Rattle.js_tree.specs.Lexical.{Stands, IsTrivia, begin_trivia, has_line_end, is_fresh, ReadsBytes, IsLast, IsBefore, IsClosed}
+use Rattle.std.specs.List.{fold}
+use Rattle.std.specs.Str.{IsUtf8, IsCharBoundary}
+use Rattle.js_tree.specs.Lexical.{Stands, IsTrivia, begin_trivia, has_line_end, is_fresh, ReadsBytes}
 use Rattle.js_tree.specs.Lexical.Character.{is_quote}
-use Rattle.js_tree.specs.Lexical.Mark.{marks, is_mark}
 use Rattle.js_tree.specs.Lexical.Number as number
 use Rattle.js_tree.specs.Lexical.Quoted as quoted
 use Rattle.js_tree.specs.Lexical.Template as template
@@ -22,10 +20,10 @@ use Rattle.js_tree.specs.declared.part.TemplatePart.TheVariants as template_part
 use Rattle.js_tree.specs.declared.part.TriviaPart.TheVariants as trivia_part
 use Rattle.js_tree.specs.declared.token.TokenClass.{TokenClass}
 use Rattle.js_tree.specs.declared.token.TokenClass.TheVariants as class
-use Rattle.js_tokens.proofs.FrontLemmas.{one_longest, last_step, digit_ascii, closed_at, some_closed}
+use Rattle.js_tokens.proofs.FrontLemmas.{one_longest, last_step, digit_ascii, some_closed}
 use Rattle.js_tokens.proofs.MarkLemmas.{mark_ascii}
-use Rattle.js_tokens.specs.Fronts.{StandsFor, Opens, IsFoundFor}
-use Rattle.js_tokens.specs.Places.{IsCutAt, IsCutFor, IsEnd, IsRaw, NoToken, IsFault, IsOfCut, behind}
+use Rattle.js_tokens.specs.Fronts.{StandsFor, IsFoundFor}
+use Rattle.js_tokens.specs.Places.{IsCutAt, IsCutFor, IsRaw, NoToken, IsFault, IsOfCut}
 use Rattle.js_tokens.specs.Reading.{Reached}
 use Rattle.js_tokens.specs.declared.cut.Cut.{Cut}
 use Rattle.js_tokens.specs.declared.fault.LexFault.TheVariants as fault

@@ -1,40 +1,28 @@
 -- What the first bytes of a text say of the tokens there.
-use Rattle.std.proofs.Common.{◌≡◌, ℕ, zero, suc, ◌+◌, ◌-◌, ◌<◌, ◌≤◌, ◌==◌, ◌&&◌, ◌||◌, not, nat_le, Bool, true, false, ⊎_elim, List, [], ◌∷◌, ◌++◌, length, take, drop, get_or, refl, sym, ap, ◌∙◌, subst, arith, true≢false, append_assoc, length-append, if◌then◌else◌}
-use Rattle.std.proofs.lemmas.Bool.{cases_order}
+use Rattle.std.proofs.Common.{◌≡◌, ℕ, zero, suc, ◌<◌, ◌==◌, ◌&&◌, ◌||◌, not, nat_le, Bool, true, false, List, [], ◌∷◌, ◌++◌, length, take, drop, get_or, refl, sym, ap, ◌∙◌, arith, true≢false, append_assoc, length-append, if◌then◌else◌}
 use Rattle.std.proofs.lemmas.Bool.Decides.{nat_tests}
-use Rattle.std.proofs.lemmas.List.{get_or-take, length-take-le, take-append-drop, take_more}
-use Rattle.std.proofs.lemmas.List.Sums.{fold-append, fold_more}
+use Rattle.std.proofs.lemmas.List.{take-append-drop}
 use Rattle.std.proofs.lemmas.Str.{chars-nil, chars_past_char, byte_from_char, char_from_byte, length-encode, len_utf8_bounds}
-use Rattle.std.proofs.Math.Seq.{take-add}
 use Rattle.std.specs.Char.{encode_utf8}
-use Rattle.std.specs.List.{fold, starts_with}
-use Rattle.std.specs.Str.{IsUtf8, chars, encode_utf8_all, bytes_eq}
-use Rattle.unicode_ident.proofs.IdentLemmas.{is_xid_start-ascii}
-use Rattle.js_tree.specs.Lexical.{Stands, Reads, ReadsBytes, IsClosed, IsLast, IsBefore, IsRegex, IsNumber, IsIdentifier, is_barred}
-use Rattle.js_tree.specs.Lexical.Character.{is_quote, is_digit, is_start, begins}
-use Rattle.js_tree.specs.Lexical.Mark.{is_mark}
+use Rattle.std.specs.List.{fold}
+use Rattle.std.specs.Str.{IsUtf8, chars, encode_utf8_all}
+use Rattle.js_tree.specs.Lexical.{Reads, ReadsBytes, IsRegex, IsNumber, IsIdentifier}
+use Rattle.js_tree.specs.Lexical.Character.{is_quote, is_digit, is_start}
 use Rattle.js_tree.specs.Lexical.Name as name
 use Rattle.js_tree.specs.Lexical.Number as number
-use Rattle.js_tree.specs.Lexical.Quoted as quoted
 use Rattle.js_tree.specs.Lexical.Regex as regex
 use Rattle.js_tree.specs.Lexical.Template as template
-use Rattle.js_tree.specs.Lexing.{Longest, is_word}
 use Rattle.js_tree.specs.declared.part.NumberPart.TheVariants as number_part
 use Rattle.js_tree.specs.declared.part.RegexPart.TheVariants as regex_part
-use Rattle.js_tree.specs.declared.part.StringPart.TheVariants as quoted_part
 use Rattle.js_tree.specs.declared.part.TemplatePart.{TemplatePart}
 use Rattle.js_tree.specs.declared.part.TemplatePart.TheVariants as template_part
 use Rattle.js_tree.specs.declared.token.TokenClass.{TokenClass}
 use Rattle.js_tree.specs.declared.token.TokenClass.TheVariants as class
-use Rattle.js_tokens.proofs.FrontLemmas.{one_longest, last_step}
 use Rattle.js_tokens.proofs.Machine.{stuck}
-use Rattle.js_tokens.proofs.MarkLemmas.{accepted}
-use Rattle.js_tokens.specs.Fronts.{sort_by, sort_at, sort_of, admits, is_operand, is_template, StandsFor, DoesntClose}
+use Rattle.js_tokens.specs.Fronts.{sort_by, sort_at, sort_of, admits, is_operand, is_template}
 use Rattle.js_tokens.specs.Marks as marks
-use Rattle.js_tokens.specs.Reading.{IsCharAt}
 use Rattle.js_tokens.specs.declared.goal.Goal.{Goal}
 use Rattle.js_tokens.specs.declared.goal.Goal.TheVariants as goal
-use Rattle.js_tokens.specs.declared.goal.Sort.{Sort}
 use Rattle.js_tokens.specs.declared.goal.Sort.TheVariants as sort
 use Rattle.js_tokens.specs.declared.mark.MarkPart.TheVariants as mark_part
 
@@ -94,9 +82,6 @@ right_of false b e = e
 second : (a b : Bool) → (a && b) ≡ true → b ≡ true
 second true b e = e
 second false b e = absurd (true≢false (sym e))
-
-pub mark_sort : (g : Goal) (b next : ℕ) → sort_at g b next ≡ sort.Mark → (b == 46 && is_digit next) ≡ false
-mark_sort g b next e = right_of (is_digit b) (b == 46 && is_digit next) (mark_at g b next e).number
 
 not_both : (a : Bool) → (a && true) ≡ false → not a ≡ true
 not_both true e = absurd (true≢false e)
@@ -235,6 +220,3 @@ odd_tick b h = grind (arith, nat_tests)
 
 pub odd_digit : (b : ℕ) → is_digit b ≡ true → marks.brackets b ≡ mark_part.Broken
 odd_digit b h = grind (arith, nat_tests)
-
-pub odd_high : (b : ℕ) → nat_le 128 b ≡ true → marks.brackets b ≡ mark_part.Broken
-odd_high b h = grind (arith, nat_tests)

@@ -1,17 +1,15 @@
 -- One token of a goal stands at a place.
-use Rattle.std.proofs.Common.{◌≡◌, ℕ, zero, suc, ◌+◌, ◌-◌, ◌<◌, ◌≤◌, ◌==◌, ◌&&◌, ◌||◌, not, nat_le, Bool, true, false, ⊎_elim, List, [], ◌∷◌, ◌++◌, length, take, drop, get_or, refl, sym, ap, ◌∙◌, subst, arith, true≢false, if◌then◌else◌, nat_eq, codes}
+use Rattle.std.proofs.Common.{◌≡◌, ℕ, zero, suc, ◌+◌, ◌-◌, ◌<◌, ◌≤◌, ◌==◌, ◌&&◌, ◌||◌, nat_le, Bool, true, false, ⊎_elim, List, [], ◌∷◌, length, take, drop, get_or, refl, sym, ap, ◌∙◌, subst, arith, true≢false, if◌then◌else◌, nat_eq, codes}
 use Rattle.std.proofs.lemmas.Bool.{cases_order}
 use Rattle.std.proofs.lemmas.Bool.Decides.{nat_tests}
-use Rattle.std.proofs.lemmas.List.{get_or-take, length-take-le}
 use Rattle.std.proofs.lemmas.List.Sums.{fold-append, fold_more}
 use Rattle.std.proofs.Math.Seq.{take-add}
 use Rattle.std.specs.Char.{is_ascii_alphabetic}
 use Rattle.std.specs.List.{fold, starts_with}
 use Rattle.std.specs.Str.{bytes_eq}
 use Rattle.unicode_ident.proofs.IdentLemmas.{is_xid_start-ascii}
-use Rattle.js_tree.specs.Lexical.{Stands, Reaches, IsRight, ReadsBytes, IsClosed, IsLast, IsBefore, is_barred}
+use Rattle.js_tree.specs.Lexical.{Stands, ReadsBytes, IsLast, IsBefore, is_barred}
 use Rattle.js_tree.specs.Lexical.Character.{is_quote, is_digit, is_start, begins}
-use Rattle.js_tree.specs.Lexical.Mark.{is_mark}
 use Rattle.js_tree.specs.Lexical.Quoted as quoted
 use Rattle.js_tree.specs.Lexical.Template as template
 use Rattle.js_tree.specs.Lexing.{Longest, is_word}
@@ -23,14 +21,12 @@ use Rattle.js_tree.specs.declared.token.TokenClass.TheVariants as class
 use Rattle.js_tokens.proofs.FrontLemmas.{one_longest, some_closed, closed_at}
 use Rattle.js_tokens.proofs.Machine.{stuck}
 use Rattle.js_tokens.proofs.MarkLemmas.{accepted}
-use Rattle.js_tokens.proofs.SortLemmas.{leads, begins_mark, number_begins, identifier_begins, regex_begins, same_number, true_by, false_by, odd_quote, odd_tick, odd_digit, odd_high, sort_admits}
-use Rattle.js_tokens.specs.Fronts.{sort_by, sort_at, sort_of, admits, is_operand, is_template, StandsFor, DoesntClose, IsFound, IsFoundFor, Opens, OpensBy, named}
+use Rattle.js_tokens.proofs.SortLemmas.{leads, begins_mark, number_begins, identifier_begins, regex_begins, same_number, false_by, odd_quote, odd_tick, odd_digit, sort_admits}
+use Rattle.js_tokens.specs.Fronts.{sort_by, sort_at, sort_of, admits, is_operand, is_template, StandsFor, DoesntClose, IsFound, IsFoundFor, OpensBy, named}
 use Rattle.js_tokens.specs.Marks as marks
-use Rattle.js_tokens.specs.declared.fault.Unclosed.{Unclosed}
 use Rattle.js_tokens.specs.declared.fault.Unclosed.TheVariants as unclosed
 use Rattle.js_tokens.specs.declared.front.Found.{Found}
 use Rattle.js_tokens.specs.declared.front.Found.TheVariants as found
-use Rattle.js_tokens.specs.declared.front.Front.{Front}
 use Rattle.js_tokens.specs.declared.goal.Goal.{Goal}
 use Rattle.js_tokens.specs.declared.goal.Goal.TheVariants as goal
 use Rattle.js_tokens.specs.declared.goal.Sort.{Sort}

@@ -1,8 +1,8 @@
 -- Where a text stands in the table of words, by its first letter.
-use Rattle.std.proofs.Common.{◌≡◌, ℕ, zero, suc, ◌+◌, ◌-◌, ◌*◌, ◌<◌, ◌≤◌, ◌==◌, ◌&&◌, ◌||◌, not, nat_le, nat_lt, ⊎_elim, Bool, true, false, List, [], ◌∷◌, ◌++◌, length, take, drop, get_or, refl, sym, ap, ◌∙◌, subst, arith, true≢false, if◌then◌else◌}
+use Rattle.std.proofs.Common.{◌≡◌, ℕ, zero, suc, ◌+◌, ◌-◌, ◌<◌, ◌≤◌, ◌==◌, ◌&&◌, ◌||◌, not, nat_le, nat_lt, Bool, true, false, List, [], ◌∷◌, ◌++◌, length, take, drop, get_or, refl, sym, ap, ◌∙◌, subst, arith, true≢false, if◌then◌else◌}
 use Rattle.std.proofs.lemmas.Bool.Decides.{nat_tests}
 use Rattle.std.proofs.lemmas.List.{take-append-drop, drop-drop, length-take-le, length-drop}
-use Rattle.std.specs.List.{list_any, list_all}
+use Rattle.std.specs.List.{list_any}
 use Rattle.std.specs.Str.{bytes_eq}
 use Rattle.js_tree.specs.Lexing.{place_in, words}
 use Rattle.js_tokens.specs.Words.{firsts, head_is, IsSpan}
@@ -178,10 +178,3 @@ heads c ((h ∷ t) ∷ ws) e l = both (h == c) (list_any (head_is c) ws) (differ
 
     both : (a b : Bool) → a ≡ false → b ≡ false → (a || b) ≡ false
     both a b f g = ap (λ (x : Bool). x || b) f ∙ g
-
-pub no_letter : (c : ℕ) (text : List ℕ) → c ≡ get_or text 0 0 → 0 < length text → (nat_lt c 97 || nat_lt 122 c) ≡ true → 37 ≡ place_in words text
-no_letter c text e some h = sym (absent words text (other_head c text words e some (heads c words h refl)))
-
-pub no_text : (text : List ℕ) → length text ≡ 0 → 37 ≡ place_in words text
-no_text [] e = refl
-no_text (t ∷ ts) e = absurd (omega (arith, e))

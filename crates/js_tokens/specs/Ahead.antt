@@ -1,15 +1,14 @@
 -- What is told of the token that stands next, whatever the goal.
-use Rattle.std.specs.Prelude.{◌≡◌, ℕ, ◌+◌, ◌-◌, Bool, true, false, List, length, drop, ◌⊎◌}
+use Rattle.std.specs.Prelude.{◌≡◌, ℕ, ◌+◌, ◌-◌, Bool, true, false, length, drop, ◌⊎◌}
 use Rattle.js_tree.specs.Lexical.{Next}
 use Rattle.js_tree.specs.Lexing.{Place}
 use Rattle.js_tree.specs.Pieces.{kind}
-use Rattle.js_tree.specs.TokenKinds.{kind_of}
 use Rattle.js_tree.specs.declared.token.Token.{Token}
 use Rattle.js_tree.specs.declared.token.TokenClass.TheVariants as class
 use Rattle.js_tree.specs.declared.token_kind.TokenKind.{TokenKind}
 use Rattle.js_tree.specs.declared.token_kind.TokenKind.TheVariants as kinds
 use Rattle.js_tokens.specs.Pieces.{IsNextStart}
-use Rattle.js_tokens.specs.Places.{IsRaw, IsCutFor}
+use Rattle.js_tokens.specs.Places.{IsRaw}
 use Rattle.js_tokens.specs.declared.fault.LexFault.{LexFault}
 use Rattle.js_tokens.specs.declared.fault.LexFault.TheVariants as fault
 use Rattle.js_tokens.specs.declared.goal.Goal.{Goal}

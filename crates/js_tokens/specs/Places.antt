@@ -1,5 +1,5 @@
 -- What a reader tells of the next token at a place.
-use Rattle.std.specs.Prelude.{◌≡◌, ℕ, ◌+◌, ◌⊎◌, Bool, List, [], length, take, drop, Result, Ok, Err}
+use Rattle.std.specs.Prelude.{◌≡◌, ℕ, ◌+◌, ◌⊎◌, List, [], length, take, drop, Result, Ok, Err}
 use Rattle.js_tree.specs.Lexing.{Longest, Place, ahead}
 use Rattle.js_tree.specs.Lexical.{IsTrivia, has_line_end, is_fresh, Next}
 use Rattle.js_tree.specs.declared.token.Token.{Token}

@@ -1,6 +1,6 @@
 -- What a scanner has found at the front of a text.
-use Rattle.std.specs.Prelude.{◌≡◌, ℕ, ◌+◌, ◌<◌, ◌≤◌, Bool, true, List, ◌++◌, length, take, drop}
-use Rattle.std.specs.Char.{encode_utf8, IsScalar, len_utf8}
+use Rattle.std.specs.Prelude.{◌≡◌, ℕ, ◌<◌, ◌≤◌, Bool, List, ◌++◌, length, take, drop}
+use Rattle.std.specs.Char.{encode_utf8, IsScalar}
 use Rattle.std.specs.List.{fold}
 use Rattle.std.specs.Str.{IsUtf8, chars}
 use Rattle.js_tree.specs.Lexical.{Reads, ReadsBytes}

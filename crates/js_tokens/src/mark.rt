@@ -1,5 +1,5 @@
 //! Marks (ECMA-262, 11.7).
-ghost use Rattle.std.specs.Prelude.{◌≡◌};
+ghost use Rattle.std.specs.Prelude.{◌≡◌, ◌==◌, if◌then◌else◌};
 ghost use Rattle.js_tokens.specs.Marks as spec;
 
 /// Where a reader of a mark stands: behind a mark that may go on, or behind one that may not, with its place in the
@@ -148,167 +148,43 @@ pub fn mark_next(part: MarkPart, c: u8) -> MarkPart
 {
     match part {
         MarkPart::Front => brackets(c),
-        MarkPart::Dot => {
-            if c == b'.' {
-                MarkPart::Dots
-            } else {
-                MarkPart::Broken
-            }
-        }
-        MarkPart::Dots => {
-            if c == b'.' {
-                MarkPart::Done(7)
-            } else {
-                MarkPart::Broken
-            }
-        }
-        MarkPart::Less => {
-            if c == b'<' {
-                MarkPart::Left
-            } else if c == b'=' {
-                MarkPart::Done(12)
-            } else {
-                MarkPart::Broken
-            }
-        }
-        MarkPart::Greater => {
-            if c == b'=' {
-                MarkPart::Done(13)
-            } else if c == b'>' {
-                MarkPart::Right
-            } else {
-                MarkPart::Broken
-            }
-        }
-        MarkPart::Left => {
-            if c == b'=' {
-                MarkPart::Done(45)
-            } else {
-                MarkPart::Broken
-            }
-        }
-        MarkPart::Right => {
-            if c == b'=' {
-                MarkPart::Done(46)
-            } else if c == b'>' {
-                MarkPart::Unsigned
-            } else {
-                MarkPart::Broken
-            }
-        }
-        MarkPart::Unsigned => {
-            if c == b'=' {
-                MarkPart::Done(47)
-            } else {
-                MarkPart::Broken
-            }
-        }
-        MarkPart::Equal => {
-            if c == b'=' {
-                MarkPart::Equals
-            } else if c == b'>' {
-                MarkPart::Done(51)
-            } else {
-                MarkPart::Broken
-            }
-        }
-        MarkPart::Equals => {
-            if c == b'=' {
-                MarkPart::Done(16)
-            } else {
-                MarkPart::Broken
-            }
-        }
-        MarkPart::Bang => {
-            if c == b'=' {
-                MarkPart::Unequal
-            } else {
-                MarkPart::Broken
-            }
-        }
-        MarkPart::Unequal => {
-            if c == b'=' {
-                MarkPart::Done(17)
-            } else {
-                MarkPart::Broken
-            }
-        }
-        MarkPart::Plus => {
-            if c == b'+' {
-                MarkPart::Done(24)
-            } else if c == b'=' {
-                MarkPart::Done(39)
-            } else {
-                MarkPart::Broken
-            }
-        }
-        MarkPart::Minus => {
-            if c == b'-' {
-                MarkPart::Done(25)
-            } else if c == b'=' {
-                MarkPart::Done(40)
-            } else {
-                MarkPart::Broken
-            }
-        }
-        MarkPart::Star => {
-            if c == b'*' {
-                MarkPart::Stars
-            } else if c == b'=' {
-                MarkPart::Done(41)
-            } else {
-                MarkPart::Broken
-            }
-        }
-        MarkPart::Stars => {
-            if c == b'=' {
-                MarkPart::Done(44)
-            } else {
-                MarkPart::Broken
-            }
-        }
-        MarkPart::Slash => {
-            if c == b'=' {
-                MarkPart::Done(42)
-            } else {
-                MarkPart::Broken
-            }
-        }
-        MarkPart::Percent => {
-            if c == b'=' {
-                MarkPart::Done(43)
-            } else {
-                MarkPart::Broken
-            }
-        }
-        MarkPart::And => {
-            if c == b'&' {
-                MarkPart::Done(34)
-            } else if c == b'=' {
-                MarkPart::Done(48)
-            } else {
-                MarkPart::Broken
-            }
-        }
-        MarkPart::Or => {
-            if c == b'=' {
-                MarkPart::Done(49)
-            } else if c == b'|' {
-                MarkPart::Done(35)
-            } else {
-                MarkPart::Broken
-            }
-        }
-        MarkPart::Caret => {
-            if c == b'=' {
-                MarkPart::Done(50)
-            } else {
-                MarkPart::Broken
-            }
-        }
+        MarkPart::Dot => step(c, b'.', MarkPart::Dots, MarkPart::Broken),
+        MarkPart::Dots => step(c, b'.', MarkPart::Done(7), MarkPart::Broken),
+        MarkPart::Less => either(c, b'<', MarkPart::Left, b'=', MarkPart::Done(12)),
+        MarkPart::Greater => either(c, b'=', MarkPart::Done(13), b'>', MarkPart::Right),
+        MarkPart::Left => step(c, b'=', MarkPart::Done(45), MarkPart::Broken),
+        MarkPart::Right => either(c, b'=', MarkPart::Done(46), b'>', MarkPart::Unsigned),
+        MarkPart::Unsigned => step(c, b'=', MarkPart::Done(47), MarkPart::Broken),
+        MarkPart::Equal => either(c, b'=', MarkPart::Equals, b'>', MarkPart::Done(51)),
+        MarkPart::Equals => step(c, b'=', MarkPart::Done(16), MarkPart::Broken),
+        MarkPart::Bang => step(c, b'=', MarkPart::Unequal, MarkPart::Broken),
+        MarkPart::Unequal => step(c, b'=', MarkPart::Done(17), MarkPart::Broken),
+        MarkPart::Plus => either(c, b'+', MarkPart::Done(24), b'=', MarkPart::Done(39)),
+        MarkPart::Minus => either(c, b'-', MarkPart::Done(25), b'=', MarkPart::Done(40)),
+        MarkPart::Star => either(c, b'*', MarkPart::Stars, b'=', MarkPart::Done(41)),
+        MarkPart::Stars => step(c, b'=', MarkPart::Done(44), MarkPart::Broken),
+        MarkPart::Slash => step(c, b'=', MarkPart::Done(42), MarkPart::Broken),
+        MarkPart::Percent => step(c, b'=', MarkPart::Done(43), MarkPart::Broken),
+        MarkPart::And => either(c, b'&', MarkPart::Done(34), b'=', MarkPart::Done(48)),
+        MarkPart::Or => either(c, b'=', MarkPart::Done(49), b'|', MarkPart::Done(35)),
+        MarkPart::Caret => step(c, b'=', MarkPart::Done(50), MarkPart::Broken),
         MarkPart::Done(_) => MarkPart::Broken,
         MarkPart::Broken => MarkPart::Broken,
     }
+}
+
+// The first part where the byte is the wanted one, else the other.
+fn step(c: u8, wanted: u8, to: MarkPart, other: MarkPart) -> MarkPart
+    ensures { result ≡ (if c == wanted then to else other) }
+{
+    if c == wanted { to } else { other }
+}
+
+// What the byte leads to of two bytes that a mark may go on with.
+fn either(c: u8, one: u8, to: MarkPart, two: u8, other: MarkPart) -> MarkPart
+    ensures { result ≡ (if c == one then to else (if c == two then other else MarkPart.Broken)) }
+{
+    step(c, one, to, step(c, two, other, MarkPart::Broken))
 }
 
 /// Whether a mark may end there.

@@ -3,7 +3,7 @@ use Rattle.std.proofs.Common.{subst, ◌≡◌, true, false, List, ◌∷◌, �
 use Rattle.std.specs.Option.{option_or, is_some, IfSome}
 use Rattle.jam_base.specs.Files.{Files}
 use Rattle.jam_base.specs.Path.{path_of}
-use Rattle.node_resolve.specs.Targets.{file_at, first_file}
+use Rattle.node_resolve.specs.Finding.{file_at, first_file}
 
 -- what is found with the first end, or else with those behind it, is what is found with all of them
 one_more : (files : Option Files) (path end : List ℕ) (ends more all : List (List ℕ)) (found : Option (List ℕ)) → ends ≡ end ∷ more

@@ -1,8 +1,18 @@
 //! Where the text of a require leads: to a module, to a file that is no code, to a core module or
-//! nowhere. A part of Node's rules stands today: texts that begin `./` or `../`, without package.json.
+//! nowhere, by Node's rules for packages and files. `target` has the calls; below it `packages` walks
+//! over folders, `search` looks for files, `exports` and `pick` read the `exports` of a package.json
+//! that `manifest` reads, and `shape` and `names` tell what a text is by its characters. Of the specs
+//! all are promises: `Targets` first, then what it cites.
 #![tactic(auto)]
 
+mod exports;
 mod fault;
+mod manifest;
+mod names;
+#[cfg(test)]
+mod package_tests;
+mod packages;
+mod pick;
 mod search;
 mod shape;
 mod target;

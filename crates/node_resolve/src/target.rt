@@ -2,11 +2,14 @@
 ghost use Rattle.std.specs.Prelude.{◌≡◌, ◌++◌, [], codes, string_bytes, IfOk, IfSome};
 ghost use Rattle.std.specs.Option.{option_map, unwrap_or};
 ghost use Rattle.node_resolve.specs.Causes.{HasResolveCause};
-ghost use Rattle.node_resolve.specs.Targets.{target_of, entry_target, target_at as target_at_of, found_at as found_at_of, is_directory_like as looks_like_directory};
+ghost use Rattle.node_resolve.specs.Targets as targets;
+ghost use Rattle.node_resolve.specs.Targets.{target_of, entry_target};
 
 use crate::ResolveFault;
+use crate::names::Bare;
+use crate::packages::{bare_target, or_missing};
 use crate::search::found_at;
-use crate::shape::{is_directory_like, is_no_code, is_relative};
+use crate::shape::{is_core, is_directory_like, is_relative, is_unsearched};
 use jam_base::{Folder, ModulePath, OutOfMemory};
 use std::alloc::Global;
 
@@ -23,40 +26,33 @@ pub enum Target {
     Missing,
 }
 
-// A file as a target.
-fn target_at(found: Option<ModulePath>) -> Target
-    ensures { result ≡ target_at_of found }
-{
-    match found {
-        None => Target::Missing,
-        Some(path) if is_no_code(path.as_str()) => Target::NotCode(path),
-        Some(path) => Target::Module(path),
-    }
-}
-
-// Where a text leads whose path is this; none is above the application folder.
-fn reached<F: Folder>(
+// The target of a relative text whose path is this; none is above the application folder.
+#[tactic(auto, unfolding(crate::specs::Targets::relative_target))]
+fn relative_target<F: Folder>(
     alloc: Global,
     folder: &mut F,
     path: Option<ModulePath>,
     spec: &str,
 ) -> Result<Target, ResolveFault>
-    ensures target { IfOk result (λ target. IfSome (F.files folder.old) (λ m.
-        target ≡ target_at_of (found_at_of m (looks_like_directory spec.now) path))) }
+    ensures target { IfOk result (λ target. IfSome (F.files folder.old) (λ m. target ≡ targets.relative_target m spec.now path)) }
     ensures same { F.files folder.new ≡ F.files folder.old }
     ensures cause { HasResolveCause (F.faults folder.old) (F.faults folder.new) result }
 {
-    let found = found_at(alloc, folder, is_directory_like(spec), path)?;
-    Ok(target_at(found))
+    let Some(path) = path else {
+        return Ok(Target::Missing);
+    };
+    let found = found_at(alloc, folder, is_directory_like(spec), &path)?;
+    Ok(or_missing(found))
 }
 
 /// The target of the text `spec` of a require in the module at the path `from`.
 ///
-/// A text that is `.` or `..` or begins `./` or `../` is a path from the folder of that module. It
-/// leads to the first that is a file of the path itself, the path with `.js`, `.json` or `.node`
-/// behind it, and `index.js`, `index.json` and `index.node` in it; only to the last three where the
-/// text ends with `/` or its last part is `.` or `..`. Above the application folder nothing is found.
-/// All other texts are `Missing` today, the names of core modules among them.
+/// A core module's name and a text that begins `node:` are `Core`. A text that is `.` or `..` or begins
+/// `./` or `../` is a path from the folder of that module. Any other begins with the name of a package:
+/// the `exports` of the package that the module itself belongs to decide where it has that name, else
+/// the folders `node_modules` are searched from the module's folder up to the application folder. A
+/// path leads to a file, with an extension or without, or to a folder's `main` or index. Above the
+/// application folder nothing is found.
 ///
 /// `ReadFault` comes where a call of the folder failed, `OutOfMemory` where there was no memory.
 #[tactic(auto, unfolding(crate::specs::Targets::target_of))]
@@ -70,11 +66,19 @@ pub fn resolve<F: Folder>(
     ensures same { F.files folder.new ≡ F.files folder.old }
     ensures cause { HasResolveCause (F.faults folder.old) (F.faults folder.new) result }
 {
-    if !is_relative(spec) {
+    if is_core(spec) {
+        return Ok(Target::Core);
+    }
+    if is_unsearched(spec) {
         return Ok(Target::Missing);
     }
-    let path = from.parent(alloc)?.join(alloc, spec)?;
-    reached(alloc, folder, path, spec)
+    let from = from.parent(alloc)?;
+    if is_relative(spec) {
+        let path = from.join(alloc, spec)?;
+        return relative_target(alloc, folder, path, spec);
+    }
+    let bare = Bare::of(alloc, spec)?;
+    bare_target(alloc, folder, &bare, &from)
 }
 
 // The text of an entry: `./` and what was given, if anything was.
@@ -102,5 +106,5 @@ pub fn entry_of<F: Folder>(
 {
     let spec = entry_text(alloc, entry)?;
     let path = ModulePath::read(alloc, spec.as_str())?;
-    reached(alloc, folder, path, spec.as_str())
+    relative_target(alloc, folder, path, spec.as_str())
 }

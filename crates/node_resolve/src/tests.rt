@@ -4,18 +4,29 @@ use std::alloc::Global;
 use std::process::Abort;
 use std::test::Fail;
 
+// Adds a file with this text.
+pub(crate) fn add(
+    alloc: Global,
+    folder: &mut MemFolder,
+    file: &str,
+    text: &str,
+) -> Result<(), Fail> {
+    let path = ModulePath::read(alloc, file)?.ok_or("file")?;
+    folder.add(path, text.as_bytes().to_vec(alloc)?)?;
+    Ok(())
+}
+
 // A folder with empty files at these paths, which stand between spaces.
 fn folder_of(alloc: Global, files: &str) -> Result<MemFolder, Fail> {
     let mut folder = MemFolder::new(alloc);
     for file in files.split(' ') {
-        let path = ModulePath::read(alloc, file)?.ok_or("file")?;
-        folder.add(path, Vec::new(alloc))?;
+        add(alloc, &mut folder, file, "")?;
     }
     Ok(folder)
 }
 
 // A target as text: its path, with a mark before one that is no code.
-fn shown(alloc: Global, target: &Target) -> Result<Text, Fail> {
+pub(crate) fn shown(alloc: Global, target: &Target) -> Result<Text, Fail> {
     let mut text = String::new(alloc);
     match target {
         Target::Module(path) => text.push_str(path.as_str())?,
@@ -86,7 +97,7 @@ fn a_relative_text_leads_to_the_first_file(rt: HostRuntime) -> Result<(), Fail> 
         ("a.js", "m.js", "a", "missing"),
         (".a.js", "m.js", ".a", "missing"),
         ("..a.js", "m.js", "./..a", "..a.js"),
-        ("index.js", "m.js", "fs", "missing"),
+        ("index.js", "m.js", "fs", "core"),
         ("index.js", "m.js", "#a", "missing"),
         ("index.js", "", "./index", "index.js"),
     ] {
@@ -123,7 +134,7 @@ fn an_entry_is_named_from_the_application_folder(rt: HostRuntime) -> Result<(), 
     Ok(())
 }
 
-// Whether a folder whose call with this number fails gives a fault for `./a`, which its fifth call finds.
+// Whether a folder whose call with this number fails gives a fault for `./a`, which its sixth call finds.
 fn fails(alloc: Global, failing: u64) -> Result<bool, Fail> {
     let mut folder = folder_of(alloc, "a/index.js")?;
     folder.fail_at(List::of(vec![in alloc; failing]?));
@@ -134,9 +145,9 @@ fn fails(alloc: Global, failing: u64) -> Result<bool, Fail> {
 #[test]
 fn a_failed_call_is_no_absent_file(rt: HostRuntime) -> Result<(), Fail> {
     let alloc = rt.alloc();
-    for failing in 1..6 {
+    for failing in 1..7 {
         assert!(rt; fails(alloc, failing)?, "{failing}");
     }
-    assert!(rt; !fails(alloc, 6)?);
+    assert!(rt; !fails(alloc, 7)?);
     Ok(())
 }

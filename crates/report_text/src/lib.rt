@@ -18,6 +18,8 @@ pub use shown::{PathStep, Shown};
 pub use values::json;
 
 #[cfg(test)]
+mod example_reports;
+#[cfg(test)]
 mod report_tests;
 #[cfg(test)]
 mod tests;

@@ -1,6 +1,8 @@
 //! Whole reports, in both formats.
-use crate::{Alarm, Counts, LineColumn, Note, PathStep, Report, Shown, json, text};
-use jam_base::{List, Text};
+use crate::example_reports::{
+    alarm, counts, function, go_alarm, note, report_with, shop_report, slow_report,
+};
+use crate::{Report, json, text};
 use serde_json::Value;
 use std::alloc::Global;
 use std::process::Abort;
@@ -9,7 +11,7 @@ use std::test::Fail;
 #[test]
 fn a_report_of_nothing_has_its_counts(rt: HostRuntime) -> Result<(), Fail> {
     let alloc = rt.alloc();
-    let report = reported(Vec::new(alloc), Vec::new(alloc), counts(1, 1, 1, 0, 0, 0));
+    let report = report_with(Vec::new(alloc), Vec::new(alloc), counts(1, 1, 1, 0, 0, 0));
     prints(
         &rt,
         alloc,
@@ -74,9 +76,9 @@ fn an_edge_more_changes_the_counts_alone(rt: HostRuntime) -> Result<(), Fail> {
 fn an_alarm_in_the_entry_has_no_path_lines(rt: HostRuntime) -> Result<(), Fail> {
     let alloc = rt.alloc();
     let mut alarms = Vec::new(alloc);
-    let body = shown(alloc, "index.js", 1, 1, "<module>")?;
+    let body = function(alloc, "index.js", 1, 1, "<module>")?;
     alarms.push(alarm(alloc, "X-2", "app", "1.0.0", body, Vec::new(alloc))?)?;
-    let report = reported(alarms, Vec::new(alloc), counts(1, 1, 1, 0, 1, 0));
+    let report = report_with(alarms, Vec::new(alloc), counts(1, 1, 1, 0, 1, 0));
     prints(
         &rt,
         alloc,
@@ -101,7 +103,7 @@ fn a_note_has_its_place(rt: HostRuntime) -> Result<(), Fail> {
     let mut notes = Vec::new(alloc);
     notes.push(note(alloc, "index.js", Some((1, 23)), "dynamic require")?)?;
     notes.push(note(alloc, "index.js", Some((2, 8)), "not found: ./absent")?)?;
-    let report = reported(Vec::new(alloc), notes, counts(1, 1, 1, 0, 0, 2));
+    let report = report_with(Vec::new(alloc), notes, counts(1, 1, 1, 0, 0, 2));
     prints(
         &rt,
         alloc,
@@ -116,7 +118,7 @@ fn a_note_has_its_place(rt: HostRuntime) -> Result<(), Fail> {
         Some((1, 1)),
         "skipped: not in the profile",
     )?)?;
-    let report = reported(Vec::new(alloc), skipped, counts(1, 1, 1, 0, 0, 1));
+    let report = report_with(Vec::new(alloc), skipped, counts(1, 1, 1, 0, 0, 1));
     prints(
         &rt,
         alloc,
@@ -133,7 +135,7 @@ fn a_note_without_a_place_has_its_location(rt: HostRuntime) -> Result<(), Fail> 
     notes.push(note(alloc, "index.js", Some((1, 1)), "not in the lockfile")?)?;
     notes.push(note(alloc, "node_modules/a", None, "no version")?)?;
     notes.push(note(alloc, "", None, "no version")?)?;
-    let report = reported(Vec::new(alloc), notes, counts(1, 1, 1, 0, 0, 3));
+    let report = report_with(Vec::new(alloc), notes, counts(1, 1, 1, 0, 0, 3));
     prints(
         &rt,
         alloc,
@@ -160,7 +162,7 @@ fn two_alarms_may_share_a_path(rt: HostRuntime) -> Result<(), Fail> {
     let mut alarms = Vec::new(alloc);
     alarms.push(go_alarm(alloc, "X-1")?)?;
     alarms.push(go_alarm(alloc, "X-2")?)?;
-    let report = reported(alarms, Vec::new(alloc), counts(3, 5, 5, 6, 2, 0));
+    let report = report_with(alarms, Vec::new(alloc), counts(3, 5, 5, 6, 2, 0));
     prints(
         &rt,
         alloc,
@@ -204,11 +206,11 @@ fn texts_are_escaped_in_each_format_by_its_own_rules(rt: HostRuntime) -> Result<
     let alloc = rt.alloc();
     let mut alarms = Vec::new(alloc);
     let name = "\"\u{2028}\u{1f600}\\";
-    let function = shown(alloc, "a\nb.js", 1, 2, name)?;
-    alarms.push(alarm(alloc, "I\u{7f}", "p\t", "1\u{0}", function, Vec::new(alloc))?)?;
+    let named = function(alloc, "a\nb.js", 1, 2, name)?;
+    alarms.push(alarm(alloc, "I\u{7f}", "p\t", "1\u{0}", named, Vec::new(alloc))?)?;
     let mut notes = Vec::new(alloc);
     notes.push(note(alloc, "\u{e9}\r", None, "not found: \u{1b}\u{80}/")?)?;
-    let report = reported(alarms, notes, counts(1, 1, 1, 0, 1, 1));
+    let report = report_with(alarms, notes, counts(1, 1, 1, 0, 1, 1));
     prints(
         &rt,
         alloc,
@@ -244,7 +246,7 @@ fn texts_are_escaped_in_each_format_by_its_own_rules(rt: HostRuntime) -> Result<
 fn counts_have_all_their_digits(rt: HostRuntime) -> Result<(), Fail> {
     let alloc = rt.alloc();
     let most = u64::MAX;
-    let report = reported(
+    let report = report_with(
         Vec::new(alloc),
         Vec::new(alloc),
         counts(most, 10, 9, 0, 0, 0),
@@ -262,127 +264,6 @@ fn counts_have_all_their_digits(rt: HostRuntime) -> Result<(), Fail> {
         "{\"alarms\":[],\"notes\":[],\"summary\":{\"alarms\":0,\"edges\":0,\"functions\":10,\
          \"modules\":18446744073709551615,\"notes\":0,\"reachable\":9}}\n",
     )
-}
-
-// A report on `slow` of a package, which `index.js` reaches by `go`.
-fn slow_report(alloc: Global, edges: u64) -> Result<Report, Fail> {
-    let package = "node_modules/a/index.js";
-    let mut path = Vec::new(alloc);
-    path.push(step(alloc, "index.js", 2, 5, shown(alloc, package, 2, 14, "go")?)?)?;
-    path.push(step(alloc, package, 2, 40, shown(alloc, package, 1, 1, "slow")?)?)?;
-    let mut alarms = Vec::new(alloc);
-    let slow = shown(alloc, package, 1, 1, "slow")?;
-    alarms.push(alarm(alloc, "X-1", "a", "1.1.0", slow, path)?)?;
-    Ok(reported(alarms, Vec::new(alloc), counts(2, 4, 4, edges, 1, 0)))
-}
-
-fn go_alarm(alloc: Global, id: &str) -> Result<Alarm, Fail> {
-    let package = "node_modules/a/index.js";
-    let mut path = Vec::new(alloc);
-    path.push(step(
-        alloc,
-        "index.js",
-        1,
-        16,
-        shown(alloc, package, 1, 14, "go")?,
-    )?)?;
-    alarm(
-        alloc,
-        id,
-        "a",
-        "1.0.0",
-        shown(alloc, package, 1, 14, "go")?,
-        path,
-    )
-}
-
-// A report on a server with nested packages.
-fn shop_report(alloc: Global) -> Result<Report, Fail> {
-    let mut alarms = Vec::new(alloc);
-    alarms.push(copy_alarm(alloc)?)?;
-    alarms.push(module_alarm(alloc)?)?;
-    alarms.push(merge_alarm(alloc)?)?;
-    let mut notes = Vec::new(alloc);
-    notes.push(note(
-        alloc,
-        "lib/server.js",
-        Some((6, 21)),
-        "not found: fast-path",
-    )?)?;
-    Ok(reported(alarms, notes, counts(5, 16, 16, 16, 3, 1)))
-}
-
-fn copy_alarm(alloc: Global) -> Result<Alarm, Fail> {
-    let deep = "node_modules/deep/lib/deep.js";
-    let store = "node_modules/store/index.js";
-    let mut path = Vec::new(alloc);
-    path.push(handler_step(alloc)?)?;
-    path.push(step(
-        alloc,
-        "lib/server.js",
-        9,
-        13,
-        shown(alloc, store, 4, 3, "Store")?,
-    )?)?;
-    path.push(step(alloc, store, 4, 33, shown(alloc, deep, 5, 3, "copy")?)?)?;
-    alarm(
-        alloc,
-        "A-1",
-        "deep",
-        "1.0.5",
-        shown(alloc, deep, 5, 3, "copy")?,
-        path,
-    )
-}
-
-fn module_alarm(alloc: Global) -> Result<Alarm, Fail> {
-    let query = "node_modules/@acme/query/dist/q.js";
-    let deep = "node_modules/@acme/query/node_modules/deep/index.js";
-    let mut path = Vec::new(alloc);
-    path.push(step(
-        alloc,
-        "lib/server.js",
-        3,
-        26,
-        shown(alloc, query, 1, 1, "<module>")?,
-    )?)?;
-    path.push(step(alloc, query, 3, 23, shown(alloc, deep, 1, 1, "<module>")?)?)?;
-    alarm(
-        alloc,
-        "A-2",
-        "deep",
-        "2.0.1",
-        shown(alloc, deep, 1, 1, "<module>")?,
-        path,
-    )
-}
-
-fn merge_alarm(alloc: Global) -> Result<Alarm, Fail> {
-    let query = "node_modules/@acme/query/dist/q.js";
-    let deep = "node_modules/@acme/query/node_modules/deep/index.js";
-    let mut path = Vec::new(alloc);
-    path.push(handler_step(alloc)?)?;
-    path.push(step(
-        alloc,
-        "lib/server.js",
-        8,
-        18,
-        shown(alloc, query, 4, 1, "parse")?,
-    )?)?;
-    path.push(step(alloc, query, 4, 43, shown(alloc, deep, 1, 17, "merge")?)?)?;
-    alarm(
-        alloc,
-        "A-2",
-        "deep",
-        "2.0.1",
-        shown(alloc, deep, 1, 17, "merge")?,
-        path,
-    )
-}
-
-fn handler_step(alloc: Global) -> Result<PathStep, Fail> {
-    let handler = shown(alloc, "lib/server.js", 7, 34, "<anonymous>")?;
-    step(alloc, "lib/server.js", 7, 33, handler)
 }
 
 fn prints(rt: &impl Abort, alloc: Global, report: &Report, want: &str) -> Result<(), Fail> {
@@ -410,80 +291,4 @@ fn reads_back(
     let found = value.pointer(at).and_then(Value::as_str);
     assert_eq!(rt; found.ok_or("no text")?, want);
     Ok(())
-}
-
-fn reported(alarms: Vec<Alarm>, notes: Vec<Note>, counts: Counts) -> Report {
-    Report {
-        alarms: List::of(alarms),
-        notes: List::of(notes),
-        counts,
-    }
-}
-
-fn counts(
-    modules: u64,
-    functions: u64,
-    reachable: u64,
-    edges: u64,
-    alarms: u64,
-    notes: u64,
-) -> Counts {
-    Counts {
-        modules,
-        functions,
-        reachable,
-        edges,
-        alarms,
-        notes,
-    }
-}
-
-fn alarm(
-    alloc: Global,
-    id: &str,
-    package: &str,
-    version: &str,
-    function: Shown,
-    path: Vec<PathStep>,
-) -> Result<Alarm, Fail> {
-    Ok(Alarm {
-        id: Text::of(alloc, id)?,
-        package: Text::of(alloc, package)?,
-        version: Text::of(alloc, version)?,
-        function,
-        path: List::of(path),
-    })
-}
-
-fn note(alloc: Global, path: &str, place: Option<(u32, u32)>, said: &str) -> Result<Note, Fail> {
-    let place = place.map(|(line, column)| LineColumn { line, column });
-    Ok(Note {
-        path: Text::of(alloc, path)?,
-        place,
-        text: Text::of(alloc, said)?,
-    })
-}
-
-fn step(
-    alloc: Global,
-    path: &str,
-    line: u32,
-    column: u32,
-    callee: Shown,
-) -> Result<PathStep, Fail> {
-    Ok(PathStep {
-        path: Text::of(alloc, path)?,
-        line,
-        column,
-        callee,
-    })
-}
-
-fn shown(alloc: Global, path: &str, line: u32, column: u32, name: &str) -> Result<Shown, Fail> {
-    Ok(Shown {
-        path: Text::of(alloc, path)?,
-        line,
-        column,
-        name: Text::of(alloc, name)?,
-    })
 }

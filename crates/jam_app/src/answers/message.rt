@@ -44,8 +44,15 @@ fn too_large_line(alloc: Global, path: &str, length: u64) -> Result<Text, OutOfM
     ensures { IfOk result (λ made. made ≡ lines.too_large_line path.now length) }
 {
     let path = escaped(alloc, path)?;
-    let path = path.as_str();
-    let line = format!(in alloc; "jam: {path}: {length} bytes, more than {TEXT_LIMIT}\n")?;
+    let line = too_large_text(alloc, path.as_str(), length)?;
+    Ok(line)
+}
+
+// The same line for a path as it is printed.
+fn too_large_text(alloc: Global, printed: &str, length: u64) -> Result<Text, OutOfMemory>
+    ensures { IfOk result (λ made. made ≡ lines.too_large_text printed.now length) }
+{
+    let line = format!(in alloc; "jam: {printed}: {length} bytes, more than {TEXT_LIMIT}\n")?;
     Ok(Text::from_string(line))
 }
 

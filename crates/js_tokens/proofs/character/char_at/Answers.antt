@@ -1,7 +1,3 @@
-use Rattle.std.proofs.Common.{◌≡◌, ℕ, ◌+◌, ◌∷◌, ◌++◌, [], List, drop, get_or, sym, ap, ◌∙◌, subst, arith, add-one, drop-cons}
-use Rattle.std.proofs.lemmas.Str.{encode_ascii}
-use Rattle.std.specs.Char.{encode_utf8}
-use Rattle.js_tokens.specs.Reading.{IsCharAt}
 use Rattle.js_tokens.proofs.character.char_at.Goals as goal
 use Rattle.js_tokens.proofs.Machine.{ascii_at}
 

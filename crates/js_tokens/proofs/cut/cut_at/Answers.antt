@@ -1,5 +1,4 @@
 use Rattle.std.proofs.Common.{subst, List, ℕ}
-use Rattle.js_tree.specs.Lexical.{is_fresh}
 use Rattle.js_tokens.specs.Fronts.{IsFoundFor}
 use Rattle.js_tokens.proofs.PlaceLemmas.{trivia_longest, cut_found, cut_only, cut_boundary, found_boundary}
 use Rattle.js_tokens.proofs.cut.cut_at.Goals as goal

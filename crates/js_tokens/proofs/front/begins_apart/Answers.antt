@@ -1,4 +1,4 @@
-use Rattle.std.proofs.Common.{refl, sym, ap, ◌∙◌, arith, subst}
+use Rattle.std.proofs.Common.{sym, ◌∙◌, arith}
 use Rattle.std.proofs.Common.{◌||◌}
 use Rattle.js_tree.specs.Lexical.Character.{is_start, is_digit}
 use Rattle.js_tokens.proofs.FrontLemmas.{begins_none, begins_char}

@@ -1,7 +1,6 @@
-use Rattle.std.proofs.Common.{refl, sym, ap, ◌∙◌, arith, subst}
 use Rattle.js_tokens.proofs.FrontLemmas.{none_of, no_identifier, reaches_identifier}
 use Rattle.js_tokens.specs.declared.goal.Sort.TheVariants as sort
-use Rattle.js_tree.specs.Lexical.{IsNumber, IsIdentifier, IsRegex, IsClosed}
+use Rattle.js_tree.specs.Lexical.{IsIdentifier}
 use Rattle.js_tokens.proofs.front.identifier_front.Goals as goal
 
 pub returns-then-len-eq0 : goal.returns-then-len-eq0

@@ -1,4 +1,4 @@
-use Rattle.std.proofs.Common.{refl, sym, ap, ◌∙◌, arith, subst}
+use Rattle.std.proofs.Common.{refl, arith}
 use Rattle.js_tokens.proofs.FrontLemmas.{mark_none, mark_stands}
 use Rattle.js_tokens.proofs.front.mark_front.Goals as goal
 

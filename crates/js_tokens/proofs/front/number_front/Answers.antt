@@ -1,9 +1,9 @@
-use Rattle.std.proofs.Common.{refl, sym, ap, ◌∙◌, arith, subst}
+use Rattle.std.proofs.Common.{arith, subst}
 use Rattle.std.proofs.Common.{List, ℕ}
 use Rattle.js_tokens.specs.Reading.{Reached}
 use Rattle.js_tokens.proofs.FrontLemmas.{none_of, no_number, reaches_number, number_boundary}
 use Rattle.js_tokens.specs.declared.goal.Sort.TheVariants as sort
-use Rattle.js_tree.specs.Lexical.{IsNumber, IsIdentifier, IsRegex, IsClosed}
+use Rattle.js_tree.specs.Lexical.{IsNumber}
 use Rattle.js_tokens.proofs.front.number_front.Goals as goal
 
 pub returns-then-len-eq0 : goal.returns-then-len-eq0

@@ -1,6 +1,6 @@
-use Rattle.std.proofs.Common.{refl, sym, ap, ◌∙◌, arith, subst}
+use Rattle.std.proofs.Common.{refl}
 use Rattle.js_tokens.proofs.FrontLemmas.{nowhere, no_regex}
-use Rattle.js_tree.specs.Lexical.{IsNumber, IsIdentifier, IsRegex, IsClosed}
+use Rattle.js_tree.specs.Lexical.{IsRegex}
 use Rattle.js_tokens.proofs.front.regex_front.Goals as goal
 
 pub returns-then-len-eq0 : goal.returns-then-len-eq0

@@ -1,4 +1,4 @@
-use Rattle.std.proofs.Common.{◌≡◌, refl, sym, ap, ◌∙◌, subst, List, ℕ, get_or}
+use Rattle.std.proofs.Common.{◌≡◌, sym, ap, ◌∙◌, subst, List, ℕ, get_or}
 use Rattle.js_tree.specs.Lexical.Character.{is_quote}
 use Rattle.js_tokens.specs.Fronts.{IsFound, sort_at}
 use Rattle.js_tokens.specs.declared.goal.Sort.{Sort}

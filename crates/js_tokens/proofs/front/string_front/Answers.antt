@@ -1,4 +1,4 @@
-use Rattle.std.proofs.Common.{refl, sym, ap, ◌∙◌, arith, ◌≤◌, ◌<◌}
+use Rattle.std.proofs.Common.{refl, sym, ◌∙◌, arith, ◌<◌}
 use Rattle.js_tokens.proofs.FrontLemmas.{wrong_string, string_longest, string_reach}
 use Rattle.js_tokens.proofs.front.string_front.Goals as goal
 

@@ -1,4 +1,4 @@
-use Rattle.std.proofs.Common.{◌≡◌, ◌||◌, ◌&&◌, false, refl, sym, ap, ◌∙◌, subst, List, ℕ, get_or, nat_eq, codes}
+use Rattle.std.proofs.Common.{◌≡◌, ◌||◌, ◌&&◌, false, sym, ap, ◌∙◌, List, ℕ, nat_eq, codes}
 use Rattle.std.specs.List.{starts_with}
 use Rattle.js_tree.specs.Lexical.{is_barred}
 use Rattle.js_tokens.proofs.TokenLemmas.{found_for, found_only, barred_from}

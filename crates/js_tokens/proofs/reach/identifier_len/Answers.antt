@@ -3,7 +3,7 @@ use Rattle.std.specs.Char.{len_utf8}
 use Rattle.std.proofs.lemmas.Str.{IsCharBoundary-from_take, IsCharBoundary-start}
 use Rattle.js_tree.specs.Lexical.Name as name
 use Rattle.js_tokens.specs.Reading.{Sofar}
-use Rattle.js_tokens.proofs.Machine.{begin, more, broken, whole}
+use Rattle.js_tokens.proofs.Machine.{begin, more, broken}
 use Rattle.js_tokens.proofs.reach.identifier_len.Goals as goal
 
 pub char_at-first-requires-clause-boundary : goal.char_at-first-requires-clause-boundary

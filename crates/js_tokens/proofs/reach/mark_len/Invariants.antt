@@ -1,5 +1,4 @@
 use Rattle.std.proofs.Common.{◌≡◌, ◌-◌, length, take}
-use Rattle.js_tree.specs.declared.part.StringPart.{StringPart}
 use Rattle.js_tokens.specs.Marks as marks
 use Rattle.js_tokens.specs.Placed.{IsPlaced}
 use Rattle.js_tokens.specs.Reading.{SofarBytes}

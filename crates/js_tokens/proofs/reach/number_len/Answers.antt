@@ -1,4 +1,4 @@
-use Rattle.std.proofs.Common.{refl, sym, ap, ◌∙◌, arith, ◌≡◌, ℕ, ◌+◌, if◌then◌else◌, Bool}
+use Rattle.std.proofs.Common.{refl, sym, ap, ◌∙◌, ◌≡◌, ◌+◌, if◌then◌else◌, Bool}
 use Rattle.js_tree.specs.Lexical.Number as number
 use Rattle.js_tree.specs.declared.part.NumberPart.TheVariants as part
 use Rattle.js_tokens.proofs.Machine.{begin_bytes, more_bytes, broken_bytes}

@@ -1,7 +1,6 @@
-use Rattle.std.proofs.Common.{refl, sym, ap, ◌∙◌, arith, subst, ◌≡◌, ℕ, ◌+◌, if◌then◌else◌, Bool}
+use Rattle.std.proofs.Common.{refl, sym, ◌∙◌, subst, ◌≡◌, ℕ, ◌+◌, if◌then◌else◌}
 use Rattle.std.specs.Char.{len_utf8}
 use Rattle.std.proofs.lemmas.Str.{IsCharBoundary-from_take}
-use Rattle.js_tree.specs.declared.part.RegexPart.{RegexPart}
 use Rattle.js_tree.specs.Lexical.Regex as regex
 use Rattle.js_tree.specs.declared.part.RegexPart.TheVariants as part
 use Rattle.js_tokens.specs.Reading.{Sofar}

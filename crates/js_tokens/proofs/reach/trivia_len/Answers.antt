@@ -1,4 +1,4 @@
-use Rattle.std.proofs.Common.{refl, sym, ap, ◌∙◌, arith, subst, ◌≡◌, ℕ, ◌+◌, if◌then◌else◌, Bool}
+use Rattle.std.proofs.Common.{refl, sym, ◌∙◌, subst, ◌≡◌, ℕ, ◌+◌, if◌then◌else◌}
 use Rattle.std.specs.Char.{len_utf8}
 use Rattle.std.proofs.lemmas.Str.{IsCharBoundary-from_take}
 use Rattle.js_tree.specs.Lexical.{begin_trivia}

@@ -1,4 +1,4 @@
-use Rattle.std.proofs.Common.{◌≡◌, arith, length}
+use Rattle.std.proofs.Common.{◌≡◌, arith}
 use Rattle.js_tree.specs.Lexing.{Place}
 use Rattle.js_tokens.proofs.HeldLemmas.{fits_at}
 use Rattle.js_tokens.proofs.reader.behind.Goals as goal

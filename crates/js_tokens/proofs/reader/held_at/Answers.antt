@@ -1,4 +1,4 @@
-use Rattle.std.proofs.Common.{sym, ap, ◌∙◌, ◌≡◌, List, ℕ}
+use Rattle.std.proofs.Common.{ap, ◌∙◌}
 use Rattle.js_tree.specs.TokenKinds.{kind_of}
 use Rattle.js_tokens.proofs.HeldLemmas.{held_found, held_none}
 use Rattle.js_tokens.proofs.reader.held_at.Goals as goal

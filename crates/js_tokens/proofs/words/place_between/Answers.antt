@@ -1,4 +1,4 @@
-use Rattle.std.proofs.Common.{sym, ap, ◌∙◌, ◌≡◌, ◌-◌, ℕ, List, map, take, drop, Bor}
+use Rattle.std.proofs.Common.{sym, ap, ◌∙◌, ◌-◌, ℕ, List, take, drop, Bor}
 use Rattle.std.proofs.lemmas.List.{take-map, drop-map}
 use Rattle.js_tree.specs.Lexing.{place_in}
 use Rattle.js_tokens.proofs.words.place_between.Goals as goal

@@ -1,4 +1,4 @@
-use Rattle.std.proofs.Common.{refl, sym, ap, ◌∙◌, arith, subst, ◌≡◌, ◌+◌, ◌-◌, ◌<◌, ◌≤◌, ℕ, List, map, take, drop}
+use Rattle.std.proofs.Common.{ap, ◌∙◌, subst, ◌≡◌, ◌+◌, ◌-◌, ◌<◌, ◌≤◌, ℕ, take, drop}
 use Rattle.js_tree.specs.Lexing.{place_in, words}
 use Rattle.js_tokens.proofs.WordLemmas.{in_span, not_in_span}
 use Rattle.js_tokens.proofs.words.place_by_letter.Goals as goal

@@ -1,4 +1,4 @@
-use Rattle.std.proofs.Common.{◌≡◌, ℕ, ◌+◌, ◌-◌, ◌<◌, ◌≤◌, List, refl, sym, ap, ◌∙◌, subst, arith, take, drop, length}
+use Rattle.std.proofs.Common.{◌≡◌, ℕ, ◌+◌, ◌-◌, ◌<◌, ◌≤◌, refl, ap, ◌∙◌, subst, arith, take, drop, length}
 use Rattle.std.proofs.lemmas.List.{length-drop}
 use Rattle.js_tree.specs.Lexing.{Place}
 use Rattle.js_tree.specs.declared.token.TokenClass.{TokenClass}
