@@ -1,1 +1,365 @@
--- What the rules of the grammar read.
+-- What each rule of the grammar reads, and what must hold of it.
+use Rattle.std.specs.Prelude.{◌≡◌, ℕ, ◌+◌, ◌≤◌, ◌<◌, ◌==◌, nat_le, max, List, [], ◌∷◌, length, Option, Some, None, is_some, ◌⊎◌, Result, IfOk, IfErr, Bool, true, false, ◌&&◌, ◌||◌, not}
+use Rattle.std.specs.List.{list_all}
+use Rattle.std.specs.declared.alloc.Global.{Global}
+use denote.Ref.{MutBor}
+use Rattle.js_tree.specs.declared.lists.Arm.{Arm}
+use Rattle.js_tree.specs.declared.lists.Block.{Block}
+use Rattle.js_tree.specs.declared.lists.Bracket.{Bracket}
+use Rattle.js_tree.specs.declared.lists.Element.{Element}
+use Rattle.js_tree.specs.declared.lists.Further.{Further}
+use Rattle.js_tree.specs.declared.lists.Init.{Init}
+use Rattle.js_tree.specs.declared.lists.Listed.{Listed}
+use Rattle.js_tree.specs.declared.lists.Tail.{Tail}
+use Rattle.js_tree.specs.declared.lists.Tail.TheVariants as tail
+use Rattle.js_tree.specs.declared.lists.Template.{Template}
+use Rattle.js_tree.specs.declared.token.Token.{Token}
+use Rattle.js_tree.specs.declared.token_kind.TokenKind.{TokenKind}
+use Rattle.js_tree.specs.declared.token_kind.TokenKind.TheVariants as kind
+use Rattle.js_tree.specs.declared.tree.Expr.{Expr, out-Expr}
+use Rattle.js_tree.specs.declared.tree.Expr.TheOpen.{Expr-F}
+use Rattle.js_tree.specs.declared.tree.Pattern.{Pattern}
+use Rattle.js_tree.specs.declared.tree.Function.{Function}
+use Rattle.js_tree.specs.declared.tree.Slot.{Slot}
+use Rattle.js_tree.specs.declared.tree.Stmt.{Stmt}
+use Rattle.js_tree.specs.Lexing.{Place}
+use Rattle.js_tree.specs.Pieces.{Piece, Tok, Onto}
+use Rattle.js_tree.specs.Spelling.{expr, function, slot, stmt, stmts, stmts_height, tallest_of}
+use Rattle.js_tree.specs.Spelling.Functions.{parameter_fits}
+use Rattle.js_tree.specs.Operators.{is_assignment}
+use Rattle.js_tree.specs.Spelling.Chains.{is_call}
+use Rattle.js_tree.specs.Spelling.Patterns.{DECLARED}
+use Rattle.js_tree.specs.Spelling.Nodes.{ASSIGN, BINARY, POWER, UNARY, NEW, pieces, unmarked, stands, is_empty, all_within, passes}
+use Rattle.js_tree.specs.Spelling.Rows.{mark, each_of, maybe, arm_row, bracket_row, element_row, further_row, template_parts, template_row, tail_row}
+use Rattle.js_tree.specs.TokenKinds.{is}
+use Rattle.js_tokens.specs.Pieces.{Reads, Read, OnlyRead, Gives, Moves, Refuses, Anywhere}
+use Rattle.js_tokens.specs.declared.fault.TokenFault.{TokenFault}
+use Rattle.js_parser.specs.declared.tall.Tall.{Tall}
+use Rattle.js_parser.specs.declared.tall.Value.{Value}
+use Rattle.js_parser.specs.Following.{Stops, NoKind, rest_level, separates, begins_tail}
+use Rattle.js_parser.specs.Patterns.{Covers}
+
+-- LINES
+
+abbrev pub expr_line : Expr → Onto
+expr_line x = (expr x).line
+
+abbrev pub slot_line : Slot → Onto
+slot_line x = (slot x).line
+
+abbrev pub stmt_line : Stmt → Onto
+stmt_line x = (stmt x).line
+
+abbrev pub value_line : Value → Onto
+value_line x = expr_line x.node
+
+abbrev pub arguments_line : Bracket Expr → Onto
+arguments_line = bracket_row pieces expr_line
+
+abbrev pub parameters_line : Bracket Slot → Onto
+parameters_line = bracket_row pieces slot_line
+
+abbrev pub template_line : Template Expr → Onto
+template_line = template_row pieces expr_line
+
+abbrev pub tail_line : Tail Expr → Onto
+tail_line = tail_row pieces expr_line
+
+abbrev pub tails_line : List (Tail Expr) → Onto
+tails_line = each_of tail_line
+
+abbrev pub block_line : Block Stmt → Onto
+block_line b rest = mark pieces kind.LeftBrace b.begin (stmts b.body (mark pieces kind.RightBrace b.end rest))
+
+-- RULES
+
+-- what is said of a call that reads a node: what it answers was read from p to m, and whatever could be read at p is the
+-- answer; tokens were passed, or the text is refused behind some
+pub record ReadsAs {X : Type 0} (line : X → Onto) (P : X → Type 0) (S : X → List Piece → Type 0) (p m : Place) (result : Result X TokenFault) : Type 0 where
+  pub found : IfOk result (λ x. Read p (line x) m × P x)
+  pub only : OnlyRead line P S p m result
+  pub moves : Moves p m result
+  pub shorter : IfOk result (λ x. length m.left < length p.left)
+
+-- the same of what may be nothing
+pub record ReadsMaybe {X : Type 0} (line : X → Onto) (P : X → Type 0) (S : X → List Piece → Type 0) (p m : Place) (result : Result X TokenFault) : Type 0 where
+  pub found : IfOk result (λ x. Read p (line x) m × P x)
+  pub only : OnlyRead line P S p m result
+  pub moves : Moves p m result
+  pub shorter : IfOk result (λ x. length m.left ≤ length p.left)
+
+-- VALUES
+
+-- the levels at which an expression is read
+abbrev pub is_level : ℕ → Bool
+is_level level = level == 0 || level == ASSIGN || (nat_le BINARY level && nat_le level UNARY) || level == NEW
+
+-- an expression of the level, no taller than the room, with its rank, its height and whether it is a target
+pub record ValueAt (level room : ℕ) (x : Value) : Type 0 where
+  pub stands : stands level (expr x.node) ≡ true
+  pub rank : x.rank ≡ (expr x.node).rank
+  pub target : x.is_target ≡ (expr x.node).is_target
+  pub height : x.height ≡ (expr x.node).height
+  pub fits : x.height ≤ room
+
+-- the expression doesn't go on with the pieces
+abbrev pub ValueStops : ℕ → Value → List Piece → Type 0
+ValueStops level x rest = Stops (rest_level level (expr x.node).rank) rest
+
+-- what is said of a call that reads an expression
+abbrev pub ReadsExpr : (level room : ℕ) → Place → Place → Result Value TokenFault → Type 0
+ReadsExpr level room = ReadsAs value_line (ValueAt level room) (ValueStops level)
+
+-- the expression is as it must be, and has this rank and this height above what stands in it
+pub record IsSeen (x : Expr) (below rank : ℕ) (is_target : Bool) : Type 0 where
+  pub sound : (expr x).is_sound ≡ true
+  pub rank : rank ≡ (expr x).rank
+  pub target : is_target ≡ (expr x).is_target
+  pub height : below + 1 ≡ (expr x).height
+
+-- the answer is the expression as a value, refused where it is too tall
+pub record Makes (rank room : ℕ) (x : Expr) (p : Place) (result : Result Value TokenFault) : Type 0 where
+  pub found : IfOk result (λ v. (v.node ≡ x) × ValueAt rank room v)
+  pub only : (level : ℕ) (v : Value) → v.node ≡ x → ValueAt level room v → Gives result v (Unit {0})
+  pub moves : IfErr result (Refuses p)
+
+-- the height of an expression or of what stands behind it, whichever is greater
+abbrev pub higher : Expr → ℕ → ℕ
+higher x h = max (expr x).height h
+
+-- FURTHER OPERANDS
+
+abbrev pub further_line : ℕ → Further Expr → Onto
+further_line rank = further_row pieces expr_line (separates rank)
+
+abbrev pub further_stands : ℕ → Further Expr → Bool
+further_stands rank x = stands (rank + 1) (expr x.item)
+
+abbrev pub further_height : List (Further Expr) → ℕ
+further_height = tallest_of (λ x. (expr x.item).height)
+
+-- an expression of the rank is a list: a Comma, or a Binary
+abbrev pub IsListRank : ℕ → Type 0
+IsListRank rank = (rank ≡ 0) ⊎ (BINARY ≤ rank) × (rank < POWER)
+
+-- a further operand of an expression of the rank
+pub record OperandAt (rank room : ℕ) (x : Tall (Further Expr)) : Type 0 where
+  pub stands : further_stands rank x.node ≡ true
+  pub height : x.height ≡ (expr x.node.item).height
+  pub fits : x.height ≤ room
+
+abbrev pub ReadsOperand : (rank room : ℕ) → Place → Place → Result (Tall (Further Expr)) TokenFault → Type 0
+ReadsOperand rank room = ReadsAs (λ x. further_line rank x.node) (OperandAt rank room) (λ x. Stops (rank + 1))
+
+-- the operands behind the first of an expression of the rank
+pub record OperandsAt (rank room : ℕ) (x : Tall (List (Further Expr))) : Type 0 where
+  pub each : list_all (further_stands rank) x.node ≡ true
+  pub some : is_empty x.node ≡ false
+  pub height : x.height ≡ further_height x.node
+  pub fits : x.height ≤ room
+
+abbrev pub ReadsOperands : (rank room : ℕ) → Place → Place → Result (Tall (List (Further Expr))) TokenFault → Type 0
+ReadsOperands rank room = ReadsAs (λ x. each_of (further_line rank) x.node) (OperandsAt rank room) (λ x. Stops rank)
+
+-- WHAT FOLLOWS A FIRST EXPRESSION
+
+-- what is said of a call that reads on behind an expression, from m to n: with the expression it is the answer, and
+-- whatever could be read on is the answer
+pub record GoesOn (After : Value → Value → List Piece → List Piece → Type 0) (level room : ℕ) (head : Value) (m n : Place) (result : Result Value TokenFault) : Type 0 where
+  pub found : IfOk result (λ x. ((p : Place) → Read p (value_line head) m → Read p (value_line x) n) × ValueAt level room x)
+  pub only : (x : Value) (behind rest : List Piece) → After head x behind rest → ValueAt level room x → ValueStops level x rest → Reads m behind
+      → Gives result x (Reads n rest)
+  pub moves : Moves m n result
+  pub shorter : IfOk result (λ x. length n.left ≤ length m.left)
+
+-- the expression alone, or what is assigned to the pattern that it covers
+pub data AssignsTo (head x : Value) (behind rest : List Piece) : Type 0 where
+  Stays : x ≡ head → behind ≡ rest → AssignsTo head x behind rest
+  Assigns : (target : Pattern) (op : Token) (given : Expr) → out-Expr x.node ≡ Expr-F.Assign target op given → Covers head.node target
+      → behind ≡ Tok op is_assignment ∷ expr_line given rest → AssignsTo head x behind rest
+
+abbrev pub arm_line : Arm Expr → Onto
+arm_line = arm_row pieces expr_line
+
+-- a choice whose first test is the expression
+pub record Chooses (head x : Value) (behind rest : List Piece) : Type 0 where
+  pub question : Token
+  pub given : Expr
+  pub colon : Token
+  pub arms : List (Arm Expr)
+  pub last : Expr
+  pub is : out-Expr x.node ≡ Expr-F.Cond (record { test = head.node; question = question; value = given; colon = colon } ∷ arms) last
+  pub behind : behind ≡ mark pieces kind.Question question (expr_line given (mark pieces kind.Colon colon (each_of arm_line arms (expr_line last rest))))
+
+-- ARGUMENTS AND TEMPLATES
+
+abbrev pub argument_stands : Element Expr → Bool
+argument_stands x = stands ASSIGN (expr x.value)
+
+pub record ArgumentsAt (room : ℕ) (x : Tall (Bracket Expr)) : Type 0 where
+  pub each : all_within argument_stands x.node ≡ true
+  pub height : x.height ≡ bracket_row unmarked higher x.node 0
+  pub fits : x.height ≤ room
+
+abbrev pub ReadsArguments : ℕ → Place → Place → Result (Tall (Bracket Expr)) TokenFault → Type 0
+ReadsArguments room = ReadsAs (λ x. arguments_line x.node) (ArgumentsAt room) (Anywhere (Tall (Bracket Expr)))
+
+-- arguments, where there are any
+pub record MaybeArgumentsAt (room : ℕ) (x : Tall (Option (Bracket Expr))) : Type 0 where
+  pub each : passes (all_within argument_stands) x.node ≡ true
+  pub height : x.height ≡ maybe (bracket_row unmarked higher) x.node 0
+  pub fits : x.height ≤ room
+
+-- no arguments follow where there are none
+abbrev pub NoArguments : Tall (Option (Bracket Expr)) → List Piece → Type 0
+NoArguments x rest = is_some x.node ≡ false → NoKind (is kind.LeftParen) rest
+
+abbrev pub ReadsMaybeArguments : ℕ → Place → Place → Result (Tall (Option (Bracket Expr))) TokenFault → Type 0
+ReadsMaybeArguments room = ReadsMaybe (λ x. maybe arguments_line x.node) (MaybeArgumentsAt room) NoArguments
+
+pub record ElementAt (room : ℕ) (x : Tall (Element Expr)) : Type 0 where
+  pub stands : argument_stands x.node ≡ true
+  pub height : x.height ≡ (expr x.node.value).height
+  pub fits : x.height ≤ room
+
+abbrev pub ReadsElement : ℕ → Place → Place → Result (Tall (Element Expr)) TokenFault → Type 0
+ReadsElement room = ReadsAs (λ x. element_row pieces expr_line x.node) (ElementAt room) (λ x. Stops ASSIGN)
+
+abbrev pub substitution_stands : Listed Expr → Bool
+substitution_stands x = stands 0 (expr x.item)
+
+pub record TemplateAt (room : ℕ) (x : Tall (Template Expr)) : Type 0 where
+  pub each : list_all substitution_stands x.node.parts ≡ true
+  pub height : x.height ≡ template_row unmarked higher x.node 0
+  pub fits : x.height ≤ room
+
+abbrev pub ReadsTemplate : ℕ → Place → Place → Result (Tall (Template Expr)) TokenFault → Type 0
+ReadsTemplate room = ReadsAs (λ x. template_line x.node) (TemplateAt room) (Anywhere (Tall (Template Expr)))
+
+pub record SubstitutionsAt (room : ℕ) (x : Tall (List (Listed Expr))) : Type 0 where
+  pub each : list_all substitution_stands x.node ≡ true
+  pub some : is_empty x.node ≡ false
+  pub height : x.height ≡ tallest_of (λ y. (expr y.item).height) x.node
+  pub fits : x.height ≤ room
+
+abbrev pub ReadsSubstitutions : ℕ → Place → Place → Result (Tall (List (Listed Expr))) TokenFault → Type 0
+ReadsSubstitutions room = ReadsAs (λ x. template_parts pieces expr_line x.node) (SubstitutionsAt room) (Anywhere (Tall (List (Listed Expr))))
+
+-- TAILS
+
+abbrev pub tail_stands : Tail Expr → Bool
+tail_stands (tail.Member dot name) = true
+tail_stands (tail.Index begin value end) = stands 0 (expr value)
+tail_stands (tail.Call b) = all_within argument_stands b
+tail_stands (tail.Template t) = list_all substitution_stands t.parts
+
+abbrev pub tail_height : Tail Expr → ℕ
+tail_height t = tail_row unmarked higher t 0
+
+pub record TailAt (room : ℕ) (x : Tall (Tail Expr)) : Type 0 where
+  pub stands : tail_stands x.node ≡ true
+  pub height : x.height ≡ tail_height x.node
+  pub fits : x.height ≤ room
+
+abbrev pub ReadsTail : ℕ → Place → Place → Result (Tall (Tail Expr)) TokenFault → Type 0
+ReadsTail room = ReadsAs (λ x. tail_line x.node) (TailAt room) (Anywhere (Tall (Tail Expr)))
+
+-- arguments among the tails only where they may stand there
+abbrev pub may_call : Bool → Tail Expr → Bool
+may_call calls t = calls || not (is_call t)
+
+pub record TailsAt (calls : Bool) (room : ℕ) (x : Tall (List (Tail Expr))) : Type 0 where
+  pub each : list_all (λ t. tail_stands t && may_call calls t) x.node ≡ true
+  pub height : x.height ≡ tallest_of tail_height x.node
+  pub fits : x.height ≤ room
+
+abbrev pub ReadsTails : Bool → ℕ → Place → Place → Result (Tall (List (Tail Expr))) TokenFault → Type 0
+ReadsTails calls room = ReadsMaybe (λ x. tails_line x.node) (TailsAt calls room) (λ x. NoKind (begins_tail calls))
+
+-- FUNCTIONS
+
+pub record ParametersAt (room : ℕ) (x : Tall (Bracket Slot)) : Type 0 where
+  pub each : all_within (λ (e : Element Slot). parameter_fits (record { dots = e.dots; value = slot e.value })) x.node ≡ true
+  pub height : x.height ≡ bracket_row unmarked (λ (s : Slot) h. max (slot s).height h) x.node 0
+  pub fits : x.height ≤ room
+
+pub record BlockAt (room : ℕ) (x : Tall (Block Stmt)) : Type 0 where
+  pub height : x.height ≡ stmts_height x.node.body
+  pub fits : x.height ≤ room
+
+pub record FunctionAt (room : ℕ) (x : Tall Function) : Type 0 where
+  pub height : x.height ≡ (function x.node).height
+  pub fits : x.height ≤ room
+
+abbrev pub ReadsParameters : ℕ → Place → Place → Result (Tall (Bracket Slot)) TokenFault → Type 0
+ReadsParameters room = ReadsAs (λ x. parameters_line x.node) (ParametersAt room) (Anywhere (Tall (Bracket Slot)))
+
+pub record ParameterAt (room : ℕ) (x : Tall (Element Slot)) : Type 0 where
+  pub fits : parameter_fits (record { dots = x.node.dots; value = slot x.node.value }) ≡ true
+  pub height : x.height ≡ (slot x.node.value).height
+  pub low : x.height ≤ room
+
+abbrev pub ReadsParameter : ℕ → Place → Place → Result (Tall (Element Slot)) TokenFault → Type 0
+ReadsParameter room = ReadsAs (λ x. element_row pieces slot_line x.node) (ParameterAt room) (Anywhere (Tall (Element Slot)))
+
+abbrev pub ReadsBlock : ℕ → Place → Place → Result (Tall (Block Stmt)) TokenFault → Type 0
+ReadsBlock room = ReadsAs (λ x. block_line x.node) (BlockAt room) (Anywhere (Tall (Block Stmt)))
+
+abbrev pub ReadsFunction : ℕ → Place → Place → Result (Tall Function) TokenFault → Type 0
+ReadsFunction room = ReadsAs (λ x. (function x.node).line) (FunctionAt room) (Anywhere (Tall Function))
+
+-- a declared name and what it is given
+pub record SlotAt (room : ℕ) (x : Tall Slot) : Type 0 where
+  pub stands : stands DECLARED (slot x.node) ≡ true
+  pub height : x.height ≡ (slot x.node).height
+  pub fits : x.height ≤ room
+
+abbrev pub ReadsSlot : ℕ → Place → Place → Result (Tall Slot) TokenFault → Type 0
+ReadsSlot room = ReadsAs (λ x. slot_line x.node) (SlotAt room) (λ x. Stops ASSIGN)
+
+pub record SlotsAt (room : ℕ) (x : Tall (List (Further Slot))) : Type 0 where
+  pub each : list_all (λ y. stands DECLARED (slot y.item)) x.node ≡ true
+  pub height : x.height ≡ tallest_of (λ y. (slot y.item).height) x.node
+  pub fits : x.height ≤ room
+
+abbrev pub slots_line : List (Further Slot) → Onto
+slots_line = each_of (further_row pieces slot_line (is kind.Comma))
+
+abbrev pub ReadsSlots : ℕ → Place → Place → Result (Tall (List (Further Slot))) TokenFault → Type 0
+ReadsSlots room = ReadsMaybe (λ x. slots_line x.node) (SlotsAt room) (λ x. Stops 0)
+
+-- STATEMENTS
+
+-- a statement no taller than the room, with its height
+pub record StmtAt (room : ℕ) (x : Tall Stmt) : Type 0 where
+  pub height : x.height ≡ (stmt x.node).height
+  pub fits : x.height ≤ room
+
+abbrev pub ReadsStmt : ℕ → Place → Place → Result (Tall Stmt) TokenFault → Type 0
+ReadsStmt room = ReadsAs (λ x. stmt_line x.node) (StmtAt room) (Anywhere (Tall Stmt))
+
+-- statements no taller than the room, with the height of the tallest
+pub record StmtsAt (room : ℕ) (x : Tall (List Stmt)) : Type 0 where
+  pub height : x.height ≡ stmts_height x.node
+  pub fits : x.height ≤ room
+
+-- no statement follows: a `}` does, or the end
+abbrev pub Closes : List Piece → Type 0
+Closes [] = Unit {0}
+Closes (x ∷ xs) = (t : Token) × (x ≡ Tok t (is kind.RightBrace))
+
+abbrev pub ReadsStmts : ℕ → Place → Place → Result (Tall (List Stmt)) TokenFault → Type 0
+ReadsStmts room = ReadsMaybe (λ x. stmts x.node) (StmtsAt room) (λ x. Closes)
+
+-- THE KNOT
+
+-- function values that read what stands in a node, with less room: an expression of a level, and statements
+pub record Knot (limit : ℕ)
+    (expr_pre : Global → MutBor Place → ℕ → ℕ → Type 0) (expr_post : Global → MutBor Place → ℕ → ℕ → Result Value TokenFault → MutBor Place → Type 0)
+    (stmts_pre : Global → MutBor Place → ℕ → Type 0) (stmts_post : Global → MutBor Place → ℕ → Result (Tall (List Stmt)) TokenFault → MutBor Place → Type 0) : Type 0 where
+  pub expr_callable : (alloc : Global) (old : MutBor Place) (room level : ℕ) → room < limit → is_level level ≡ true → expr_pre alloc old room level
+  pub expr_reads : (alloc : Global) (old new : MutBor Place) (room level : ℕ) (r : Result Value TokenFault) → room < limit → is_level level ≡ true → expr_post alloc old room level r new
+      → ReadsExpr level room old.now new.now r
+  pub stmts_callable : (alloc : Global) (old : MutBor Place) (room : ℕ) → room < limit → stmts_pre alloc old room
+  pub stmts_read : (alloc : Global) (old new : MutBor Place) (room : ℕ) (r : Result (Tall (List Stmt)) TokenFault) → room < limit → stmts_post alloc old room r new
+      → ReadsStmts room old.now new.now r

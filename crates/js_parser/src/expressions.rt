@@ -1,187 +1,139 @@
-//! Expressions from the weakest level on (ECMA-262, 12.4 and 12.6 to 12.16).
-use crate::kinds::{is_assignment, level_of};
-use crate::operands::power;
-use crate::patterns::pattern_of;
-use crate::tall::{POWER, Tall, Value, above, higher};
+//! Expressions from the weakest level on (ECMA-262, 12.6 to 12.16).
+ghost use Rattle.std.specs.Prelude.{◌≡◌, ◌≤◌, ◌<◌, ◌+◌, ◌-◌, true};
+ghost use Rattle.js_parser.specs.Nodes.{Knot, IsListRank, is_level, ReadsExpr, ReadsOperand, ReadsOperands};
+
+use crate::grammar::Grammar;
+use crate::marks::next_strength;
+use crate::tall::{Tall, Value, higher};
+use crate::values::value;
 use js_tokens::{Goal, TokenFault, TokenReader};
-use js_tree::{Arm, Expr, Further, TokenKind};
+use js_tree::{Expr, Further, Stmt};
 use sqlite_items::{Boxed, Items};
 use std::alloc::Global;
 
-/// A list by commas, or an expression of another level.
-#[cycle(rules)]
-pub fn expression(
-    alloc: Global,
-    reader: &mut TokenReader<'_>,
-    room: u32,
-) -> Result<Value, TokenFault> {
-    let first = assignment(alloc, reader, room)?;
-    if reader.kind() != TokenKind::Comma {
-        return Ok(first);
-    }
-    let mut height = first.height;
-    let mut rest = Items::new(alloc);
-    while reader.kind() == TokenKind::Comma {
-        let mark = reader.take(alloc, Goal::Operator)?;
-        let item = assignment(alloc, reader, room)?;
-        height = higher(height, item.height);
-        rest.push(Further {
-            mark,
-            item: Boxed::new(alloc, item.node)?,
-        })?;
-    }
-    Ok(Value {
-        height: above(reader, height, room)?,
-        node: Expr::Comma {
-            first: Boxed::new(alloc, first.node)?,
-            rest,
-        },
-        rank: 0,
-        is_target: false,
-    })
-}
-
-/// An assignment, or an expression of a higher level.
-#[cycle(rules)]
-pub fn assignment(
-    alloc: Global,
-    reader: &mut TokenReader<'_>,
-    room: u32,
-) -> Result<Value, TokenFault> {
-    let first = binary(alloc, reader, room, 1)?;
-    if reader.kind() == TokenKind::Question {
-        return choice(alloc, reader, room, first);
-    }
-    assigned(alloc, reader, room, first)
-}
-
-// What is assigned to the expression, where it is a target and an operator follows; else the expression.
-#[cycle(rules)]
-fn assigned(
-    alloc: Global,
-    reader: &mut TokenReader<'_>,
-    room: u32,
-    first: Value,
-) -> Result<Value, TokenFault> {
-    if !(first.is_target && is_assignment(reader.kind())) {
-        return Ok(first);
-    }
-    let op = reader.take(alloc, Goal::Operator)?;
-    let target = Tall {
-        node: first.node,
-        height: first.height,
-    };
-    let target = pattern_of(alloc, target)?;
-    let value = assignment(alloc, reader, room)?;
-    Ok(Value {
-        height: above(reader, higher(target.height, value.height), room)?,
-        node: Expr::Assign {
-            target: Boxed::new(alloc, target.node)?,
-            op,
-            value: Boxed::new(alloc, value.node)?,
-        },
-        rank: 1,
-        is_target: false,
-    })
-}
-
-// A choice whose first test is given.
-#[cycle(rules)]
-fn choice(
-    alloc: Global,
-    reader: &mut TokenReader<'_>,
-    room: u32,
-    first: Value,
-) -> Result<Value, TokenFault> {
-    let mut arms = Items::new(alloc);
-    let mut height = 0;
-    let mut test = first;
-    while reader.kind() == TokenKind::Question {
-        let question = reader.take(alloc, Goal::Operator)?;
-        let value = assignment(alloc, reader, room)?;
-        if reader.kind() != TokenKind::Colon {
+impl<
+    E: Fn(Global, &mut TokenReader<'_>, u32, u8) -> Result<Value, TokenFault>,
+    S: Fn(Global, &mut TokenReader<'_>, u32) -> Result<Tall<Items<Stmt>>, TokenFault>,
+> Grammar<E, S>
+{
+    /// An expression of the level.
+    pub fn expression(
+        &self,
+        reader: &mut TokenReader<'_>,
+        level: u8,
+    ) -> Result<Value, TokenFault>
+        requires knot { Knot self.now.room (E.pre self.now.expr) (E.post self.now.expr) (S.pre self.now.stmts) (S.post self.now.stmts) }
+        requires level { is_level level ≡ true }
+        ensures reads { ReadsExpr level self.now.room reader.old reader.new result }
+    {
+        if self.room == 0 {
             return Err(reader.refusal());
         }
-        let colon = reader.take(alloc, Goal::Operator)?;
-        height = higher(height, higher(test.height, value.height));
-        arms.push(Arm {
-            test: Boxed::new(alloc, test.node)?,
-            question,
-            value: Boxed::new(alloc, value.node)?,
-            colon,
-        })?;
-        test = binary(alloc, reader, room, 1)?;
+        match level {
+            0 => self.comma(reader),
+            1 => self.assignment(reader),
+            14 => self.unary(reader),
+            18 => self.head(reader),
+            _ => self.binary(reader, level),
+        }
     }
-    let last = assigned(alloc, reader, room, test)?;
-    Ok(Value {
-        height: above(reader, higher(height, last.height), room)?,
-        node: Expr::Cond {
-            arms,
-            last: Boxed::new(alloc, last.node)?,
-        },
-        rank: 2,
-        is_target: false,
-    })
-}
 
-// Operands with operators of this level and higher ones. Only levels that have an operator here take a turn.
-#[cycle(rules)]
-fn binary(
-    alloc: Global,
-    reader: &mut TokenReader<'_>,
-    room: u32,
-    lowest: u8,
-) -> Result<Value, TokenFault> {
-    let mut first = power(alloc, reader, room)?;
-    while lowest <= level_of(reader.kind()) {
-        let level = level_of(reader.kind());
-        first = operands(alloc, reader, room, level, first)?;
+    // A list by commas, or an expression of another level.
+    fn comma(&self, reader: &mut TokenReader<'_>) -> Result<Value, TokenFault>
+        requires knot { Knot self.now.room (E.pre self.now.expr) (E.post self.now.expr) (S.pre self.now.stmts) (S.post self.now.stmts) }
+        requires some { 0 < self.now.room }
+        ensures reads { ReadsExpr 0 self.now.room reader.old reader.new result }
+    {
+        let first = self.assignment(reader)?;
+        if next_strength(reader) != 1 {
+            return Ok(first);
+        }
+        let others = self.operands(reader, 0)?;
+        let below = higher(first.height, others.height);
+        let node = Expr::Comma {
+            first: first.node,
+            rest: others.node,
+        };
+        value(self.alloc, reader, self.room, node, below, 0, false)
     }
-    Ok(first)
-}
 
-// The first operand, and those that follow it by operators of the level.
-#[cycle(rules)]
-fn operands(
-    alloc: Global,
-    reader: &mut TokenReader<'_>,
-    room: u32,
-    level: u8,
-    first: Value,
-) -> Result<Value, TokenFault> {
-    let mut height = first.height;
-    let mut rest = Items::new(alloc);
-    while level_of(reader.kind()) == level {
-        let mark = reader.take(alloc, Goal::Operator)?;
-        let item = operand_above(alloc, reader, room, level)?;
-        height = higher(height, item.height);
-        rest.push(Further {
-            mark,
-            item: Boxed::new(alloc, item.node)?,
-        })?;
+    /// Operands with operators of this rank, from 3 to 12, and higher ones.
+    pub fn binary(&self, reader: &mut TokenReader<'_>, lowest: u8) -> Result<Value, TokenFault>
+        requires knot { Knot self.now.room (E.pre self.now.expr) (E.post self.now.expr) (S.pre self.now.stmts) (S.post self.now.stmts) }
+        requires some { 0 < self.now.room }
+        requires least { 3 ≤ lowest }
+        requires most { lowest ≤ 13 }
+        ensures reads { ReadsExpr lowest self.now.room reader.old reader.new result }
+    {
+        let mut first = self.power(reader)?;
+        let mut rank = 13;
+        'ranks: while lowest < rank {
+            rank -= 1;
+            if next_strength(reader) == rank + 1 {
+                let others = self.operands(reader, rank)?;
+                let below = higher(first.height, others.height);
+                let node = Expr::Binary {
+                    level: rank - 2,
+                    first: first.node,
+                    rest: others.node,
+                };
+                first = value(self.alloc, reader, self.room, node, below, rank, false)?;
+            }
+        }
+        Ok(first)
     }
-    Ok(Value {
-        height: above(reader, height, room)?,
-        node: Expr::Binary {
-            level,
-            first: Boxed::new(alloc, first.node)?,
-            rest,
-        },
-        rank: level + 2,
-        is_target: false,
-    })
-}
 
-// An operand of a level above this one.
-#[cycle(rules)]
-fn operand_above(
-    alloc: Global,
-    reader: &mut TokenReader<'_>,
-    room: u32,
-    level: u8,
-) -> Result<Value, TokenFault> {
-    if level + 3 == POWER {
-        return power(alloc, reader, room);
+    /// The operands behind the first one of an expression of the rank, one at least, each with what stands before it.
+    pub fn operands(
+        &self,
+        reader: &mut TokenReader<'_>,
+        rank: u8,
+    ) -> Result<Tall<Items<Further<Boxed<Expr>>>>, TokenFault>
+        requires knot { Knot self.now.room (E.pre self.now.expr) (E.post self.now.expr) (S.pre self.now.stmts) (S.post self.now.stmts) }
+        requires some { 0 < self.now.room }
+        requires rank { IsListRank rank }
+        ensures reads { ReadsOperands rank (self.now.room - 1) reader.old reader.new result }
+    {
+        let Tall {
+            node: first,
+            height,
+        } = self.operand(reader, rank)?;
+        let mut height = height;
+        let mut all = Items::new(self.alloc);
+        all.push(first)?;
+        'operands: while next_strength(reader) == rank + 1 {
+            let Tall {
+                node: next,
+                height: tall,
+            } = self.operand(reader, rank)?;
+            height = higher(height, tall);
+            all.push(next)?;
+        }
+        Ok(Tall { node: all, height })
     }
-    binary(alloc, reader, room, level + 1)
+
+    /// A further operand of an expression of the rank, with what stands before it.
+    fn operand(
+        &self,
+        reader: &mut TokenReader<'_>,
+        rank: u8,
+    ) -> Result<Tall<Further<Boxed<Expr>>>, TokenFault>
+        requires knot { Knot self.now.room (E.pre self.now.expr) (E.post self.now.expr) (S.pre self.now.stmts) (S.post self.now.stmts) }
+        requires some { 0 < self.now.room }
+        requires rank { IsListRank rank }
+        ensures reads { ReadsOperand rank (self.now.room - 1) reader.old reader.new result }
+    {
+        if next_strength(reader) != rank + 1 {
+            return Err(reader.refusal());
+        }
+        let mark = reader.take(self.alloc, Goal::Operator)?;
+        let value = self.inner(reader, rank + 1)?;
+        Ok(Tall {
+            height: value.height,
+            node: Further {
+                mark,
+                item: value.node,
+            },
+        })
+    }
 }

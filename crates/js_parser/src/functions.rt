@@ -1,69 +1,82 @@
 //! Functions (ECMA-262, clause 14).
-use crate::marks::mark;
-use crate::statements::statements;
-use crate::tall::{Tall, higher};
-use js_tokens::{Goal, TokenFault, TokenReader};
+ghost use Rattle.std.specs.Prelude.{◌≡◌, ◌≤◌, ◌<◌, ◌-◌};
+ghost use Rattle.js_parser.specs.Nodes.{Knot, ReadsFunction, ReadsParameters, ReadsParameter, ReadsBlock};
+
+use crate::grammar::Grammar;
+use crate::kinds::are_same;
+use crate::marks::{mark, maybe_mark};
+use crate::tall::{Tall, Value, higher};
+use js_tokens::{TokenFault, TokenReader};
 use js_tree::{Block, Bracket, Element, Function, Listed, Pattern, Slot, Stmt, TokenKind};
 use sqlite_items::Items;
 use std::alloc::Global;
 
-/// A function with the word `function`.
-#[cycle(rules)]
-pub fn function(
-    alloc: Global,
-    reader: &mut TokenReader<'_>,
-    room: u32,
-) -> Result<Tall<Function>, TokenFault> {
-    let word = mark(alloc, reader, TokenKind::Function)?;
-    let name = match reader.kind() {
-        TokenKind::Name => Some(reader.take(alloc, Goal::Operand)?),
-        _ => None,
-    };
-    let Tall {
-        node: params,
-        height: low,
-    } = parameters(alloc, reader, room)?;
-    let Tall { node: body, height } = block(alloc, reader, room)?;
-    Ok(Tall {
-        node: Function::Keyword {
-            word,
-            name,
-            params,
-            body,
-        },
-        height: higher(low, height),
-    })
+impl<
+    E: Fn(Global, &mut TokenReader<'_>, u32, u8) -> Result<Value, TokenFault>,
+    S: Fn(Global, &mut TokenReader<'_>, u32) -> Result<Tall<Items<Stmt>>, TokenFault>,
+> Grammar<E, S>
+{
+    /// A function with the word `function`.
+    pub fn function(&self, reader: &mut TokenReader<'_>) -> Result<Tall<Function>, TokenFault>
+        requires knot { Knot self.now.room (E.pre self.now.expr) (E.post self.now.expr) (S.pre self.now.stmts) (S.post self.now.stmts) }
+        requires some { 0 < self.now.room }
+        ensures reads { ReadsFunction (self.now.room - 1) reader.old reader.new result }
+    {
+        let word = mark(self.alloc, reader, TokenKind::Function)?;
+        let name = maybe_mark(self.alloc, reader, TokenKind::Name)?;
+        let params = parameters(self.alloc, reader, self.room - 1)?;
+        let body = self.block(reader)?;
+        Ok(Tall {
+            height: higher(params.height, body.height),
+            node: Function::Keyword {
+                word,
+                name,
+                params: params.node,
+                body: body.node,
+            },
+        })
+    }
+
+    // Statements in braces.
+    fn block(&self, reader: &mut TokenReader<'_>) -> Result<Tall<Block<Stmt>>, TokenFault>
+        requires knot { Knot self.now.room (E.pre self.now.expr) (E.post self.now.expr) (S.pre self.now.stmts) (S.post self.now.stmts) }
+        requires some { 0 < self.now.room }
+        ensures reads { ReadsBlock (self.now.room - 1) reader.old reader.new result }
+    {
+        let begin = mark(self.alloc, reader, TokenKind::LeftBrace)?;
+        let Tall { node: body, height } = self.inner_stmts(reader)?;
+        let end = mark(self.alloc, reader, TokenKind::RightBrace)?;
+        Ok(Tall {
+            node: Block { begin, body, end },
+            height,
+        })
+    }
 }
 
-// Parameters: names by commas in round brackets.
+// Parameters in round brackets.
 fn parameters(
     alloc: Global,
     reader: &mut TokenReader<'_>,
     room: u32,
-) -> Result<Tall<Bracket<Slot>>, TokenFault> {
+) -> Result<Tall<Bracket<Slot>>, TokenFault>
+    ensures reads { ReadsParameters room reader.old reader.new result }
+{
     let open = mark(alloc, reader, TokenKind::LeftParen)?;
     let mut front = Items::new(alloc);
     let mut last = None;
     let mut height = 0;
-    while reader.kind() != TokenKind::RightParen {
-        if room == 0 {
-            return Err(reader.refusal());
-        }
-        let name = mark(alloc, reader, TokenKind::Name)?;
-        height = 1;
-        let item = Element {
-            dots: None,
-            value: Slot {
-                target: Pattern::Name(name),
-                init: None,
-            },
-        };
-        if reader.kind() != TokenKind::Comma {
+    'parameters: while last.is_none() && !are_same(TokenKind::RightParen, reader.kind()) {
+        let Tall {
+            node: item,
+            height: tall,
+        } = parameter(alloc, reader, room)?;
+        height = higher(height, tall);
+        if are_same(TokenKind::Comma, reader.kind()) {
+            let mark = mark(alloc, reader, TokenKind::Comma)?;
+            front.push(Listed { item, mark })?;
+        } else {
             last = Some(item);
-            break;
         }
-        let mark = reader.take(alloc, Goal::Operand)?;
-        front.push(Listed { item, mark })?;
     }
     let close = mark(alloc, reader, TokenKind::RightParen)?;
     Ok(Tall {
@@ -77,18 +90,24 @@ fn parameters(
     })
 }
 
-// Statements in braces.
-#[cycle(rules)]
-fn block(
+// A parameter: a name.
+fn parameter(
     alloc: Global,
     reader: &mut TokenReader<'_>,
     room: u32,
-) -> Result<Tall<Block<Stmt>>, TokenFault> {
-    let begin = mark(alloc, reader, TokenKind::LeftBrace)?;
-    let Tall { node: body, height } = statements(alloc, reader, room)?;
-    let end = mark(alloc, reader, TokenKind::RightBrace)?;
+) -> Result<Tall<Element<Slot>>, TokenFault>
+    ensures reads { ReadsParameter room reader.old reader.new result }
+{
+    if room == 0 {
+        return Err(reader.refusal());
+    }
+    let name = mark(alloc, reader, TokenKind::Name)?;
+    let value = Slot {
+        target: Pattern::Name(name),
+        init: None,
+    };
     Ok(Tall {
-        node: Block { begin, body, end },
-        height,
+        node: Element { dots: None, value },
+        height: 1,
     })
 }

@@ -1,5 +1,5 @@
-//! A token of one kind.
-ghost use Rattle.std.specs.Prelude.{◌≡◌, ◌<◌, ◌↔◌, IsTrue, true, false, IfOk, OnErr, length};
+//! Tokens of one kind, and with which strength the next token binds.
+ghost use Rattle.std.specs.Prelude.{◌≡◌, ◌<◌, IfOk, OnErr, length, true, false};
 ghost use Rattle.js_tree.specs.declared.token.Token.{Token};
 ghost use Rattle.js_tree.specs.Lexical.{Next};
 ghost use Rattle.js_tree.specs.Pieces.{one, kind as kind_of};
@@ -7,7 +7,9 @@ ghost use Rattle.js_tree.specs.TokenKinds.{is};
 ghost use Rattle.js_tokens.specs.declared.goal.Goal.TheVariants as goals;
 ghost use Rattle.js_tokens.specs.Ahead.{reads};
 ghost use Rattle.js_tokens.specs.Pieces.{OnlyRead, Any, Anywhere, Moves};
+ghost use Rattle.js_parser.specs.Following.{IsStrength};
 
+use crate::kinds::{are_same, strength};
 use js_tokens::{Goal, TokenFault, TokenReader};
 use js_tree::{Token, TokenKind};
 use std::alloc::Global;
@@ -26,16 +28,32 @@ pub fn mark(
     ensures shorter { IfOk result (λ _. length reader.new.left < length reader.old.left) }
     ensures stays { OnErr result (reader.new ≡ reader.old) }
 {
-    if are_same(reader.kind(), kind) {
+    if are_same(kind, reader.kind()) {
         reader.take(alloc, Goal::Operator)
     } else {
         Err(reader.refusal())
     }
 }
 
-/// Whether two kinds are one.
-pub fn are_same(a: TokenKind, b: TokenKind) -> bool
-    ensures { IsTrue result ↔ (a ≡ b) }
+/// The strength with which an expression goes on with the next token, or 0 where none does.
+pub fn next_strength(reader: &TokenReader<'_>) -> u8
+    ensures { IsStrength reader.now result }
 {
-    a == b
+    strength(reader.kind(), reader.nl_before())
+}
+
+/// The next token, where it is of this kind.
+pub fn maybe_mark(
+    alloc: Global,
+    reader: &mut TokenReader<'_>,
+    kind: TokenKind,
+) -> Result<Option<Token>, TokenFault>
+    requires plain { reads goals.Operator kind ≡ true }
+    requires some { is TokenKind.End kind ≡ false }
+{
+    if !are_same(kind, reader.kind()) {
+        return Ok(None);
+    }
+    let token = mark(alloc, reader, kind)?;
+    Ok(Some(token))
 }

@@ -1,89 +1,96 @@
 //! Powers, and operators before and behind their operand (ECMA-262, 12.4 to 12.6).
-use crate::chains::{chain, made};
+ghost use Rattle.std.specs.Prelude.{◌≡◌, ◌≤◌, ◌<◌};
+ghost use Rattle.js_tree.specs.Operators as operators;
+ghost use Rattle.js_parser.specs.Following.{Leads};
+ghost use Rattle.js_parser.specs.Nodes.{Knot, ReadsExpr};
+
+use crate::grammar::Grammar;
 use crate::kinds::{is_unary, is_update};
-use crate::tall::{POSTFIX, POWER, UNARY, UPDATE, Value, above, higher};
+use crate::marks::next_strength;
+use crate::tall::{Tall, Value, higher};
+use crate::values::value;
 use js_tokens::{Goal, TokenFault, TokenReader};
-use js_tree::{Expr, TokenKind};
-use sqlite_items::Boxed;
+use js_tree::{Expr, Stmt};
+use sqlite_items::Items;
 use std::alloc::Global;
 
-/// A power, or what may stand in one.
-#[cycle(rules)]
-pub fn power(alloc: Global, reader: &mut TokenReader<'_>, room: u32) -> Result<Value, TokenFault> {
-    let base = unary(alloc, reader, room)?;
-    if reader.kind() != TokenKind::Stars || base.rank < UPDATE {
-        return Ok(base);
-    }
-    let op = reader.take(alloc, Goal::Operator)?;
-    if room == 0 {
-        return Err(reader.refusal());
-    }
-    let exponent = power(alloc, reader, room - 1)?;
-    Ok(Value {
-        height: above(reader, higher(base.height, exponent.height), room)?,
-        node: Expr::Power {
-            base: Boxed::new(alloc, base.node)?,
+impl<
+    E: Fn(Global, &mut TokenReader<'_>, u32, u8) -> Result<Value, TokenFault>,
+    S: Fn(Global, &mut TokenReader<'_>, u32) -> Result<Tall<Items<Stmt>>, TokenFault>,
+> Grammar<E, S>
+{
+    /// A power, or what may stand in one.
+    pub fn power(&self, reader: &mut TokenReader<'_>) -> Result<Value, TokenFault>
+        requires knot { Knot self.now.room (E.pre self.now.expr) (E.post self.now.expr) (S.pre self.now.stmts) (S.post self.now.stmts) }
+        requires some { 0 < self.now.room }
+        ensures reads { ReadsExpr 13 self.now.room reader.old reader.new result }
+    {
+        let base = self.unary(reader)?;
+        if base.rank < 15 || next_strength(reader) != 14 {
+            return Ok(base);
+        }
+        let op = reader.take(self.alloc, Goal::Operator)?;
+        let exponent = self.inner(reader, 13)?;
+        let below = higher(base.height, exponent.height);
+        let node = Expr::Power {
+            base: base.node,
             op,
-            exponent: Boxed::new(alloc, exponent.node)?,
-        },
-        rank: POWER,
-        is_target: false,
-    })
-}
+            exponent: exponent.node,
+        };
+        value(self.alloc, reader, self.room, node, below, 13, false)
+    }
 
-// An operator and its operand, or an expression without one before it.
-#[cycle(rules)]
-fn unary(alloc: Global, reader: &mut TokenReader<'_>, room: u32) -> Result<Value, TokenFault> {
-    let kind = reader.kind();
-    if !is_unary(kind) {
-        return postfix(alloc, reader, room);
+    /// An operator and its operand, or an expression without one before it.
+    pub fn unary(&self, reader: &mut TokenReader<'_>) -> Result<Value, TokenFault>
+        requires knot { Knot self.now.room (E.pre self.now.expr) (E.post self.now.expr) (S.pre self.now.stmts) (S.post self.now.stmts) }
+        requires some { 0 < self.now.room }
+        ensures reads { ReadsExpr 14 self.now.room reader.old reader.new result }
+    {
+        if is_unary(reader.kind()) {
+            self.operation(reader)
+        } else {
+            self.postfix(reader)
+        }
     }
-    if room == 0 {
-        return Err(reader.refusal());
-    }
-    let refusal = reader.refusal();
-    let op = reader.take(alloc, Goal::Operator)?;
-    let operand = unary(alloc, reader, room - 1)?;
-    if is_update(kind) && !operand.is_target {
-        return Err(refusal);
-    }
-    Ok(Value {
-        height: above(reader, operand.height, room)?,
-        node: Expr::Unary {
+
+    // An operator and its operand.
+    fn operation(&self, reader: &mut TokenReader<'_>) -> Result<Value, TokenFault>
+        requires told { Leads operators.is_unary reader.old }
+        requires knot { Knot self.now.room (E.pre self.now.expr) (E.post self.now.expr) (S.pre self.now.stmts) (S.post self.now.stmts) }
+        requires some { 0 < self.now.room }
+        ensures reads { ReadsExpr 14 self.now.room reader.old reader.new result }
+    {
+        let refusal = reader.refusal();
+        let updates = is_update(reader.kind());
+        let op = reader.take(self.alloc, Goal::Operator)?;
+        let operand = self.inner(reader, 14)?;
+        if updates && !operand.is_target {
+            return Err(refusal);
+        }
+        let rank = if updates { 15 } else { 14 };
+        let node = Expr::Unary {
             op,
-            operand: Boxed::new(alloc, operand.node)?,
-        },
-        rank: if is_update(kind) { UPDATE } else { UNARY },
-        is_target: false,
-    })
-}
-
-// A target and `++` or `--` on its line, or the expression alone.
-#[cycle(rules)]
-fn postfix(alloc: Global, reader: &mut TokenReader<'_>, room: u32) -> Result<Value, TokenFault> {
-    let first = operand(alloc, reader, room)?;
-    if !(first.is_target && is_update(reader.kind()) && !reader.nl_before()) {
-        return Ok(first);
+            operand: operand.node,
+        };
+        value(self.alloc, reader, self.room, node, operand.height, rank, false)
     }
-    let op = reader.take(alloc, Goal::Operator)?;
-    Ok(Value {
-        height: above(reader, first.height, room)?,
-        node: Expr::Postfix {
-            target: Boxed::new(alloc, first.node)?,
+
+    /// A target and `++` or `--` on its line, or the expression alone.
+    pub fn postfix(&self, reader: &mut TokenReader<'_>) -> Result<Value, TokenFault>
+        requires knot { Knot self.now.room (E.pre self.now.expr) (E.post self.now.expr) (S.pre self.now.stmts) (S.post self.now.stmts) }
+        requires some { 0 < self.now.room }
+        ensures reads { ReadsExpr 16 self.now.room reader.old reader.new result }
+    {
+        let first = self.chain(reader)?;
+        if !first.is_target || next_strength(reader) != 17 {
+            return Ok(first);
+        }
+        let op = reader.take(self.alloc, Goal::Operator)?;
+        let below = first.height;
+        let node = Expr::Postfix {
+            target: first.node,
             op,
-        },
-        rank: POSTFIX,
-        is_target: false,
-    })
-}
-
-// A chain, what `new` makes, or a primary.
-#[cycle(rules)]
-fn operand(alloc: Global, reader: &mut TokenReader<'_>, room: u32) -> Result<Value, TokenFault> {
-    if reader.kind() == TokenKind::New {
-        let first = made(alloc, reader, room)?;
-        return chain(alloc, reader, room, first);
+        };
+        value(self.alloc, reader, self.room, node, below, 16, false)
     }
-    let first = crate::chains::primary(alloc, reader, room)?;
-    chain(alloc, reader, room, first)
 }

@@ -1,40 +1,43 @@
 //! Expressions as what is assigned to (ECMA-262, 12.15.5).
+ghost use Rattle.std.specs.Prelude.{◌≡◌, IfOk, true};
+ghost use Rattle.js_tree.specs.Spelling as seen;
+ghost use Rattle.js_parser.specs.Patterns.{Covers};
+ghost use Rattle.js_tokens.specs.Pieces.{Gives};
+
 use crate::tall::Tall;
 use js_tokens::TokenFault;
 use js_tree::{Expr, Pattern};
 use sqlite_items::Boxed;
 use std::alloc::Global;
 
-/// The target as a pattern; every pattern and chain in it counts.
-pub fn pattern_of(alloc: Global, target: Tall<Expr>) -> Result<Tall<Pattern>, TokenFault> {
-    let Tall { node, height } = target;
-    match node {
+/// The target, which is of this height, as a pattern; every pattern and chain in it counts.
+pub fn pattern_of(
+    alloc: Global,
+    target: Boxed<Expr>,
+    height: u32,
+) -> Result<Tall<Pattern>, TokenFault>
+{
+    match target.into_inner() {
         Expr::Name(name) => Ok(Tall {
             node: Pattern::Name(name),
             height: 1,
         }),
         Expr::Paren { open, inner, close } => {
-            let inner = Tall {
-                node: inner.into_inner(),
-                height: height - 1,
-            };
-            let Tall { node, height } = pattern_of(alloc, inner)?;
-            let Ok(inner) = Boxed::new(alloc, node) else {
-                return Err(TokenFault::OutOfMemory);
-            };
+            let inner = pattern_of(alloc, inner, height - 1)?;
             Ok(Tall {
-                node: Pattern::Paren { open, inner, close },
-                height: height + 1,
+                height: inner.height + 1,
+                node: Pattern::Paren {
+                    open,
+                    inner: Boxed::new(alloc, inner.node)?,
+                    close,
+                },
             })
         }
-        other => {
-            let Ok(chain) = Boxed::new(alloc, other) else {
-                return Err(TokenFault::OutOfMemory);
-            };
-            Ok(Tall {
-                node: Pattern::Member { chain },
-                height: height + 1,
-            })
-        }
+        other => Ok(Tall {
+            node: Pattern::Member {
+                chain: Boxed::new(alloc, other)?,
+            },
+            height: height + 1,
+        }),
     }
 }

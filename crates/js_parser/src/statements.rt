@@ -1,68 +1,201 @@
 //! Statements (ECMA-262, clause 13).
-use crate::expressions::{assignment, expression};
-use crate::functions::function;
+ghost use Rattle.std.specs.Prelude.{◌≡◌, ◌≤◌, ◌<◌, ◌-◌};
+ghost use Rattle.js_parser.specs.declared.kinds.Statement.TheVariants as sorts;
+ghost use Rattle.js_parser.specs.Following.{LeadsToStmt};
+ghost use Rattle.js_parser.specs.Nodes.{Knot, ReadsStmt, ReadsStmts, ReadsSlot, ReadsSlots};
+
+use crate::grammar::Grammar;
+use crate::kinds::{Statement, are_same, statement_of};
 use crate::marks::mark;
-use crate::tall::{Tall, Value, above, higher};
-use js_tokens::{Goal, TokenFault, TokenReader};
-use js_tree::{Function, Further, Init, Pattern, Slot, Stmt, TokenKind};
+use crate::tall::{Tall, Value, higher};
+use js_tokens::{TokenFault, TokenReader};
+use js_tree::{Expr, Function, Further, Init, Pattern, Slot, Stmt, Token, TokenKind};
 use sqlite_items::{Boxed, Items};
 use std::alloc::Global;
 
-/// Statements, up to a `}` or to where no token stands.
-#[cycle(rules)]
-pub fn statements(
-    alloc: Global,
-    reader: &mut TokenReader<'_>,
-    room: u32,
-) -> Result<Tall<Items<Stmt>>, TokenFault> {
-    let mut all = Items::new(alloc);
-    let mut tallest = 0;
-    while !(reader.kind() == TokenKind::RightBrace || reader.kind() == TokenKind::End) {
-        let Tall { node, height } = statement(alloc, reader, room)?;
-        tallest = higher(tallest, height);
-        all.push(node)?;
+impl<
+    E: Fn(Global, &mut TokenReader<'_>, u32, u8) -> Result<Value, TokenFault>,
+    S: Fn(Global, &mut TokenReader<'_>, u32) -> Result<Tall<Items<Stmt>>, TokenFault>,
+> Grammar<E, S>
+{
+    /// Statements, up to a `}` or the end.
+    pub fn statements(&self, reader: &mut TokenReader<'_>) -> Result<Tall<Items<Stmt>>, TokenFault>
+        requires knot { Knot self.now.room (E.pre self.now.expr) (E.post self.now.expr) (S.pre self.now.stmts) (S.post self.now.stmts) }
+        ensures reads { ReadsStmts self.now.room reader.old reader.new result }
+    {
+        let mut all = Items::new(self.alloc);
+        let mut tallest = 0;
+        'statements: while !closes(reader.kind()) {
+            if self.room == 0 {
+                return Err(reader.refusal());
+            }
+            let Tall { node, height } = self.statement(reader)?;
+            tallest = higher(tallest, height);
+            all.push(node)?;
+        }
+        Ok(Tall {
+            node: all,
+            height: tallest,
+        })
     }
-    Ok(Tall {
-        node: all,
-        height: tallest,
-    })
+
+    // A statement.
+    fn statement(&self, reader: &mut TokenReader<'_>) -> Result<Tall<Stmt>, TokenFault>
+        requires knot { Knot self.now.room (E.pre self.now.expr) (E.post self.now.expr) (S.pre self.now.stmts) (S.post self.now.stmts) }
+        requires some { 0 < self.now.room }
+        ensures reads { ReadsStmt self.now.room reader.old reader.new result }
+    {
+        match statement_of(reader.kind()) {
+            Statement::Function => self.declaration(reader),
+            Statement::Var => self.variables(reader),
+            Statement::Return => self.end_of_function(reader),
+            Statement::Plain => self.plain(reader),
+            Statement::Nothing => Err(reader.refusal()),
+        }
+    }
+
+    // The declaration of a function.
+    fn declaration(&self, reader: &mut TokenReader<'_>) -> Result<Tall<Stmt>, TokenFault>
+        requires knot { Knot self.now.room (E.pre self.now.expr) (E.post self.now.expr) (S.pre self.now.stmts) (S.post self.now.stmts) }
+        requires some { 0 < self.now.room }
+        requires told { LeadsToStmt sorts.Function reader.old }
+        ensures reads { ReadsStmt self.now.room reader.old reader.new result }
+    {
+        let refusal = reader.refusal();
+        let Tall { node, height } = self.function(reader)?;
+        if !is_named(&node) {
+            return Err(refusal);
+        }
+        Ok(Tall {
+            height: height + 1,
+            node: Stmt::Fun {
+                function: Boxed::new(self.alloc, node)?,
+            },
+        })
+    }
+
+    // The declaration of variables.
+    fn variables(&self, reader: &mut TokenReader<'_>) -> Result<Tall<Stmt>, TokenFault>
+        requires knot { Knot self.now.room (E.pre self.now.expr) (E.post self.now.expr) (S.pre self.now.stmts) (S.post self.now.stmts) }
+        requires some { 0 < self.now.room }
+        requires told { LeadsToStmt sorts.Var reader.old }
+        ensures reads { ReadsStmt self.now.room reader.old reader.new result }
+    {
+        let word = mark(self.alloc, reader, TokenKind::Var)?;
+        let first = self.slot(reader)?;
+        let others = self.further_slots(reader)?;
+        let semi = mark(self.alloc, reader, TokenKind::Semicolon)?;
+        Ok(Tall {
+            height: higher(first.height, others.height) + 1,
+            node: Stmt::Vars {
+                word,
+                first: first.node,
+                rest: others.node,
+                semi: Some(semi),
+            },
+        })
+    }
+
+    // The declarations behind the first one, each with its comma.
+    fn further_slots(
+        &self,
+        reader: &mut TokenReader<'_>,
+    ) -> Result<Tall<Items<Further<Slot>>>, TokenFault>
+        requires knot { Knot self.now.room (E.pre self.now.expr) (E.post self.now.expr) (S.pre self.now.stmts) (S.post self.now.stmts) }
+        requires some { 0 < self.now.room }
+        ensures reads { ReadsSlots (self.now.room - 1) reader.old reader.new result }
+    {
+        let mut all = Items::new(self.alloc);
+        let mut height = 0;
+        'slots: while are_same(TokenKind::Comma, reader.kind()) {
+            let mark = mark(self.alloc, reader, TokenKind::Comma)?;
+            let slot = self.slot(reader)?;
+            height = higher(height, slot.height);
+            all.push(Further {
+                mark,
+                item: slot.node,
+            })?;
+        }
+        Ok(Tall { node: all, height })
+    }
+
+    // A name that is declared, and what it is given.
+    fn slot(&self, reader: &mut TokenReader<'_>) -> Result<Tall<Slot>, TokenFault>
+        requires knot { Knot self.now.room (E.pre self.now.expr) (E.post self.now.expr) (S.pre self.now.stmts) (S.post self.now.stmts) }
+        requires some { 0 < self.now.room }
+        ensures reads { ReadsSlot (self.now.room - 1) reader.old reader.new result }
+    {
+        if self.room == 1 {
+            return Err(reader.refusal());
+        }
+        let target = Pattern::Name(mark(self.alloc, reader, TokenKind::Name)?);
+        if !are_same(TokenKind::Assign, reader.kind()) {
+            return Ok(Tall {
+                node: Slot { target, init: None },
+                height: 1,
+            });
+        }
+        let equals = mark(self.alloc, reader, TokenKind::Assign)?;
+        let value = self.inner(reader, 1)?;
+        let init = Some(Init {
+            equals,
+            value: value.node,
+        });
+        Ok(Tall {
+            node: Slot { target, init },
+            height: higher(1, value.height),
+        })
+    }
+
+    // The end of a function, with what it gives where that stands on its line.
+    fn end_of_function(&self, reader: &mut TokenReader<'_>) -> Result<Tall<Stmt>, TokenFault>
+        requires knot { Knot self.now.room (E.pre self.now.expr) (E.post self.now.expr) (S.pre self.now.stmts) (S.post self.now.stmts) }
+        requires some { 0 < self.now.room }
+        requires told { LeadsToStmt sorts.Return reader.old }
+        ensures reads { ReadsStmt self.now.room reader.old reader.new result }
+    {
+        let word = mark(self.alloc, reader, TokenKind::Return)?;
+        if are_same(TokenKind::Semicolon, reader.kind()) || reader.nl_before() {
+            let semi = mark(self.alloc, reader, TokenKind::Semicolon)?;
+            return Ok(Tall {
+                node: return_of(word, None, semi),
+                height: 1,
+            });
+        }
+        let value = self.inner(reader, 0)?;
+        let semi = mark(self.alloc, reader, TokenKind::Semicolon)?;
+        Ok(Tall {
+            height: value.height + 1,
+            node: return_of(word, Some(value.node), semi),
+        })
+    }
+
+    // An expression as a statement.
+    fn plain(&self, reader: &mut TokenReader<'_>) -> Result<Tall<Stmt>, TokenFault>
+        requires knot { Knot self.now.room (E.pre self.now.expr) (E.post self.now.expr) (S.pre self.now.stmts) (S.post self.now.stmts) }
+        requires some { 0 < self.now.room }
+        requires told { LeadsToStmt sorts.Plain reader.old }
+        ensures reads { ReadsStmt self.now.room reader.old reader.new result }
+    {
+        let value = self.inner(reader, 0)?;
+        let semi = mark(self.alloc, reader, TokenKind::Semicolon)?;
+        Ok(Tall {
+            height: value.height + 1,
+            node: Stmt::Plain {
+                value: value.node,
+                semi: Some(semi),
+            },
+        })
+    }
 }
 
-#[cycle(rules)]
-fn statement(
-    alloc: Global,
-    reader: &mut TokenReader<'_>,
-    room: u32,
-) -> Result<Tall<Stmt>, TokenFault> {
-    if room == 0 {
-        return Err(reader.refusal());
+// Whether no statement can follow.
+fn closes(kind: TokenKind) -> bool
+{
+    match statement_of(kind) {
+        Statement::Nothing => true,
+        _ => false,
     }
-    match reader.kind() {
-        TokenKind::Function => declaration(alloc, reader, room),
-        TokenKind::Var => variables(alloc, reader, room),
-        TokenKind::Return => end_of_function(alloc, reader, room),
-        _ => plain(alloc, reader, room),
-    }
-}
-
-// The declaration of a function.
-#[cycle(rules)]
-fn declaration(
-    alloc: Global,
-    reader: &mut TokenReader<'_>,
-    room: u32,
-) -> Result<Tall<Stmt>, TokenFault> {
-    let refusal = reader.refusal();
-    let Tall { node, height } = function(alloc, reader, room - 1)?;
-    if !is_named(&node) {
-        return Err(refusal);
-    }
-    Ok(Tall {
-        height: above(reader, height, room)?,
-        node: Stmt::Fun {
-            function: Boxed::new(alloc, node)?,
-        },
-    })
 }
 
 fn is_named(function: &Function) -> bool {
@@ -76,112 +209,10 @@ fn is_named(function: &Function) -> bool {
     }
 }
 
-// The declaration of variables.
-#[cycle(rules)]
-fn variables(
-    alloc: Global,
-    reader: &mut TokenReader<'_>,
-    room: u32,
-) -> Result<Tall<Stmt>, TokenFault> {
-    let word = mark(alloc, reader, TokenKind::Var)?;
-    let Tall {
-        node: first,
-        height: low,
-    } = slot(alloc, reader, room - 1)?;
-    let mut height = low;
-    let mut rest = Items::new(alloc);
-    while reader.kind() == TokenKind::Comma {
-        let mark = reader.take(alloc, Goal::Operator)?;
-        let Tall {
-            node: item,
-            height: next,
-        } = slot(alloc, reader, room - 1)?;
-        height = higher(height, next);
-        rest.push(Further { mark, item })?;
+fn return_of(word: Token, value: Option<Boxed<Expr>>, semi: Token) -> Stmt {
+    Stmt::Return {
+        word,
+        value,
+        semi: Some(semi),
     }
-    let semi = mark(alloc, reader, TokenKind::Semicolon)?;
-    Ok(Tall {
-        height: above(reader, height, room)?,
-        node: Stmt::Vars {
-            word,
-            first,
-            rest,
-            semi: Some(semi),
-        },
-    })
-}
-
-// A name that is declared, and what it is given.
-#[cycle(rules)]
-fn slot(alloc: Global, reader: &mut TokenReader<'_>, room: u32) -> Result<Tall<Slot>, TokenFault> {
-    if room == 0 {
-        return Err(reader.refusal());
-    }
-    let target = Pattern::Name(mark(alloc, reader, TokenKind::Name)?);
-    if reader.kind() != TokenKind::Assign {
-        return Ok(Tall {
-            node: Slot { target, init: None },
-            height: 1,
-        });
-    }
-    let equals = reader.take(alloc, Goal::Operator)?;
-    let value = assignment(alloc, reader, room)?;
-    let init = Some(Init {
-        equals,
-        value: Boxed::new(alloc, value.node)?,
-    });
-    Ok(Tall {
-        node: Slot { target, init },
-        height: higher(1, value.height),
-    })
-}
-
-// The end of a function, with what it gives where that stands on its line.
-#[cycle(rules)]
-fn end_of_function(
-    alloc: Global,
-    reader: &mut TokenReader<'_>,
-    room: u32,
-) -> Result<Tall<Stmt>, TokenFault> {
-    let word = mark(alloc, reader, TokenKind::Return)?;
-    if reader.kind() == TokenKind::Semicolon || reader.nl_before() {
-        let semi = mark(alloc, reader, TokenKind::Semicolon)?;
-        return Ok(Tall {
-            node: Stmt::Return {
-                word,
-                value: None,
-                semi: Some(semi),
-            },
-            height: 1,
-        });
-    }
-    let value = expression(alloc, reader, room - 1)?;
-    let semi = mark(alloc, reader, TokenKind::Semicolon)?;
-    Ok(Tall {
-        height: above(reader, value.height, room)?,
-        node: Stmt::Return {
-            word,
-            value: Some(Boxed::new(alloc, value.node)?),
-            semi: Some(semi),
-        },
-    })
-}
-
-// An expression as a statement.
-#[cycle(rules)]
-fn plain(alloc: Global, reader: &mut TokenReader<'_>, room: u32) -> Result<Tall<Stmt>, TokenFault> {
-    let Value {
-        node,
-        height,
-        rank: _,
-        is_target: _,
-    } = expression(alloc, reader, room - 1)?;
-    let semi = mark(alloc, reader, TokenKind::Semicolon)?;
-    Ok(Tall {
-        height: above(reader, height, room)?,
-        node: Stmt::Plain {
-            value: Boxed::new(alloc, node)?,
-            semi: Some(semi),
-        },
-    })
 }

@@ -1,6 +1,6 @@
 //! A whole text as a tree.
 use crate::fault::{Construct, ParseFault};
-use crate::statements::statements;
+use crate::knot::stmts;
 use crate::tall::Tall;
 use jam_base::Steps;
 use js_tokens::{TokenFault, TokenReader};
@@ -20,7 +20,7 @@ fn tree(alloc: Global, text: &str) -> Result<Tree, TokenFault> {
     let Tall {
         node: body,
         height: _,
-    } = statements(alloc, &mut reader, DEPTH)?;
+    } = stmts(alloc, &mut reader, DEPTH)?;
     if reader.is_at_end() {
         Ok(Tree { body })
     } else {

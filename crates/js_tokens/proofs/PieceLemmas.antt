@@ -44,7 +44,7 @@ differ c d b p apart x y = true≢false (sym y.3 ∙ sym (same_test d b p x.1 y.
 pub stops_at : (c : TokenKind → Bool) → Blind c → (t : Token) (test : TokenKind → Bool) (rest : List Piece) → ((k : TokenKind) → test k ≡ true → c k ≡ false) → Stops c (Tok t test ∷ rest)
 stops_at c b t test rest unlike p r u q next = same_test c b p q r.0 u t next r.1 ∙ unlike (kind t) r.2
 
-handed_on : {X Y : Type 0} (x : X) (y : Y) (P Q : Type 0) (e : TokenFault) → Gives {X = X} (Err e) x P → Gives {X = Y} (Err e) y Q
+pub handed_on : {X Y : Type 0} (x : X) (y : Y) (P Q : Type 0) (e : TokenFault) → Gives {X = X} (Err e) x P → Gives {X = Y} (Err e) y Q
 handed_on x y P Q (fault.Unexpected at) h = h
 handed_on x y P Q fault.OutOfMemory h = tt
 

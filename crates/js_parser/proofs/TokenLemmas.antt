@@ -1,0 +1,89 @@
+-- What is told of the next token.
+use Rattle.std.proofs.Common.{◌≡◌, ◌⊎◌, ⊎_elim, ℕ, ◌+◌, ◌<◌, ◌≤◌, ◌==◌, Bool, true, false, ◌&&◌, ◌||◌, not, sym, ap, ◌∙◌, subst, arith, true≢false, List, ◌∷◌, Result, Ok, Err}
+use Rattle.std.specs.Prelude.{nat_lt, nat_le}
+use Rattle.js_tree.specs.declared.token.Token.{Token}
+use Rattle.js_tree.specs.declared.token_kind.TokenKind.{TokenKind}
+use Rattle.js_tree.specs.declared.token_kind.TokenKind.TheVariants as kinds
+use Rattle.js_tree.specs.Lexical.{Next}
+use Rattle.js_tree.specs.Lexing.{Place}
+use Rattle.js_tree.specs.Operators.{is_assignment, is_binary, level_of}
+use Rattle.js_tree.specs.Pieces.{Piece, Tok, one, kind}
+use Rattle.js_tree.specs.TokenKinds.{is}
+use Rattle.js_tree.proofs.KindLemmas.{is_same, every}
+use Rattle.js_tokens.proofs.AheadLemmas.{one_next}
+use Rattle.js_tokens.specs.Ahead.{reads, IsTwin, IsNextKind, IsNextLine}
+use Rattle.js_tokens.specs.Pieces.{OnlyRead, Any, Anywhere, Reads, Gives}
+use Rattle.js_tokens.specs.declared.fault.TokenFault.{TokenFault}
+use Rattle.js_tokens.specs.declared.goal.Goal.TheVariants as goal
+use Rattle.js_parser.specs.Following.{strength, IsStrength, Rests, Stops, separates}
+
+odd_twin : (j k : TokenKind) → IsTwin j k → reads goal.Operator j ≡ true → ⊥
+odd_twin kinds.Regex k w r = true≢false (sym r)
+odd_twin kinds.TemplateMiddle k w r = true≢false (sym r)
+odd_twin kinds.TemplateTail k w r = true≢false (sym r)
+odd_twin _ k w r = w
+
+-- a token that stands next and may be an operator is of the kind that is told
+pub told : (p q : Place) (t : Token) (k : TokenKind) → IsNextKind p k → Next p t q → reads goal.Operator (kind t) ≡ true → kind t ≡ k
+told p q t k is a r = ⊎_elim (λ (e : kind t ≡ k). e) (λ (w : IsTwin (kind t) k). absurd (odd_twin (kind t) k w r)) (is.all t q a)
+
+-- the kinds that pass the test of one kind are it alone
+pub only_plain : (k : TokenKind) → reads goal.Operator k ≡ true → (j : TokenKind) → is k j ≡ true → reads goal.Operator j ≡ true
+only_plain k plain j e = ap (reads goal.Operator) (is_same k j e) ∙ plain
+
+-- where another kind is told no token of this one stands next
+pub not_told : (p : Place) (k asked : TokenKind) (e : TokenFault) → IsNextKind p k → reads goal.Operator asked ≡ true → is asked k ≡ false
+    → OnlyRead (one (is asked)) (Any Token) (Anywhere Token) p p (Err e)
+not_told p k asked e next plain other u rest reads any anywhere =
+    let same : kind u ≡ k = told p reads.0 u k next reads.1 (only_plain asked plain (kind u) reads.2) in
+    absurd (true≢false (sym reads.2 ∙ ap (is asked) same ∙ other))
+
+-- STRENGTH
+
+implies : (a b : Bool) → (not a || b) ≡ true → a ≡ true → b ≡ true
+implies true b h e = h
+implies false b h e = absurd (true≢false (sym e))
+
+either : (a b : Bool) → (a || b) ≡ true → a ≡ false → b ≡ true
+either true b h e = absurd (true≢false e)
+either false b h e = h
+
+equal : (a b : ℕ) → (a == b) ≡ true → a ≡ b
+equal a b e = grind (arith, nat_tests, e)
+
+-- a token with which an expression goes on is one that the goal Operator reads
+plain_check : Bool → TokenKind → Bool
+plain_check nl k = (strength k nl == 0) || reads goal.Operator k
+
+pub plain_strength : (k : TokenKind) (nl : Bool) → 0 < strength k nl → reads goal.Operator k ≡ true
+unfolding plain_check
+plain_strength k true s = either (strength k true == 0) _ (every (plain_check true) refl k) (grind (arith, nat_tests, s))
+plain_strength k false s = either (strength k false == 0) _ (every (plain_check false) refl k) (grind (arith, nat_tests, s))
+
+pub strength_told : (p : Place) (k : TokenKind) (nl : Bool) → IsNextKind p k → IsNextLine p nl → IsStrength p (strength k nl)
+strength_told p k nl is line = record {
+  all = λ t n a r. (λ i. strength (told p n t k is a r i) (line t n a i));
+  some = λ s. token s (is.some (some_kind s));
+}
+  where
+    some_kind : 0 < strength k nl → k ≡ kinds.End → ⊥
+    some_kind s e = omega (arith, subst (λ (j : TokenKind). 0 < strength j nl) e s)
+
+    token : 0 < strength k nl → (t : Token) × (n : Place) × Next p t n × (kind t ≡ k) → (t : Token) × (n : Place) × Next p t n × (reads goal.Operator (kind t) ≡ true)
+    token s x = (x.0, x.1, x.2, ap (reads goal.Operator) x.3 ∙ plain_strength k nl s)
+
+comma_check : Bool → TokenKind → Bool
+comma_check nl k = not (is kinds.Comma k) || (strength k nl == 1)
+
+of_comma : (k : TokenKind) (nl : Bool) → is kinds.Comma k ≡ true → strength k nl ≡ 1
+unfolding comma_check
+of_comma k true h = equal _ _ (implies (is kinds.Comma k) _ (every (comma_check true) refl k) h)
+of_comma k false h = equal _ _ (implies (is kinds.Comma k) _ (every (comma_check false) refl k) h)
+
+level_check : Bool → TokenKind → Bool
+level_check nl k = (level_of k == 0) || (strength k nl == level_of k + 3)
+
+of_level : (k : TokenKind) (nl : Bool) → 0 < level_of k → strength k nl ≡ level_of k + 3
+unfolding level_check
+of_level k true s = equal _ _ (either (level_of k == 0) _ (every (level_check true) refl k) (grind (arith, nat_tests, s)))
+of_level k false s = equal _ _ (either (level_of k == 0) _ (every (level_check false) refl k) (grind (arith, nat_tests, s)))

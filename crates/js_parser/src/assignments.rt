@@ -1,0 +1,86 @@
+//! Assignments and choices (ECMA-262, 12.14 and 12.15).
+ghost use Rattle.std.specs.Prelude.{◌≡◌, ◌≤◌, ◌<◌, true};
+ghost use Rattle.js_parser.specs.Nodes.{Knot, ReadsExpr};
+
+use crate::grammar::Grammar;
+use crate::marks::{mark, next_strength};
+use crate::patterns::pattern_of;
+use crate::tall::{Tall, Value, higher};
+use crate::values::value;
+use js_tokens::{Goal, TokenFault, TokenReader};
+use js_tree::{Arm, Expr, Stmt, TokenKind};
+use sqlite_items::{Boxed, Items};
+use std::alloc::Global;
+
+impl<
+    E: Fn(Global, &mut TokenReader<'_>, u32, u8) -> Result<Value, TokenFault>,
+    S: Fn(Global, &mut TokenReader<'_>, u32) -> Result<Tall<Items<Stmt>>, TokenFault>,
+> Grammar<E, S>
+{
+    /// An assignment, a choice, or an expression of a higher level.
+    pub fn assignment(&self, reader: &mut TokenReader<'_>) -> Result<Value, TokenFault>
+        requires knot { Knot self.now.room (E.pre self.now.expr) (E.post self.now.expr) (S.pre self.now.stmts) (S.post self.now.stmts) }
+        requires some { 0 < self.now.room }
+        ensures reads { ReadsExpr 1 self.now.room reader.old reader.new result }
+    {
+        let first = self.binary(reader, 3)?;
+        if next_strength(reader) == 3 {
+            return self.choice(reader, first);
+        }
+        self.assigned(reader, first)
+    }
+
+    // What is assigned to the expression, where it is a target and an operator follows; else the expression.
+    fn assigned(&self, reader: &mut TokenReader<'_>, first: Value) -> Result<Value, TokenFault>
+        requires knot { Knot self.now.room (E.pre self.now.expr) (E.post self.now.expr) (S.pre self.now.stmts) (S.post self.now.stmts) }
+        requires some { 0 < self.now.room }
+        requires first { ValueAt 3 self.now.room first }
+        ensures reads { GoesOn AssignsTo 1 self.now.room first reader.old reader.new result }
+    {
+        if !first.is_target || next_strength(reader) != 2 {
+            return Ok(first);
+        }
+        let op = reader.take(self.alloc, Goal::Operator)?;
+        let target = pattern_of(self.alloc, first.node, first.height)?;
+        let given = self.inner(reader, 1)?;
+        let below = higher(target.height, given.height);
+        let node = Expr::Assign {
+            target: Boxed::new(self.alloc, target.node)?,
+            op,
+            value: given.node,
+        };
+        value(self.alloc, reader, self.room, node, below, 1, false)
+    }
+
+    // A choice whose first test is given.
+    fn choice(&self, reader: &mut TokenReader<'_>, first: Value) -> Result<Value, TokenFault>
+        requires knot { Knot self.now.room (E.pre self.now.expr) (E.post self.now.expr) (S.pre self.now.stmts) (S.post self.now.stmts) }
+        requires some { 0 < self.now.room }
+        requires first { ValueAt 3 self.now.room first }
+        ensures reads { GoesOn Chooses 1 self.now.room first reader.old reader.new result }
+    {
+        let mut arms = Items::new(self.alloc);
+        let mut height = 0;
+        let mut test = first;
+        'arms: while next_strength(reader) == 3 {
+            let question = mark(self.alloc, reader, TokenKind::Question)?;
+            let given = self.inner(reader, 1)?;
+            let colon = mark(self.alloc, reader, TokenKind::Colon)?;
+            height = higher(height, higher(test.height, given.height));
+            arms.push(Arm {
+                test: test.node,
+                question,
+                value: given.node,
+                colon,
+            })?;
+            test = self.inner(reader, 3)?;
+        }
+        let last = self.assigned(reader, test)?;
+        let below = higher(height, last.height);
+        let node = Expr::Cond {
+            arms,
+            last: last.node,
+        };
+        value(self.alloc, reader, self.room, node, below, 2, false)
+    }
+}
