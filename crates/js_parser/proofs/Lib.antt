@@ -1,3 +1,4 @@
 pub mod ListLemmas
+pub mod ListedLemmas
 pub mod PlaceLemmas
 pub mod TokenLemmas

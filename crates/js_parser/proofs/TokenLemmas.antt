@@ -1,13 +1,15 @@
 -- What is told of the next token.
-use Rattle.std.proofs.Common.{◌≡◌, ◌⊎◌, ⊎_elim, ℕ, ◌+◌, ◌<◌, ◌≤◌, ◌==◌, Bool, true, false, ◌&&◌, ◌||◌, not, sym, ap, ◌∙◌, subst, arith, true≢false, List, ◌∷◌, Result, Ok, Err}
+use Rattle.std.proofs.Common.{◌≡◌, ◌⊎◌, ⊎_elim, ℕ, ◌+◌, ◌<◌, ◌≤◌, ◌==◌, Bool, true, false, ◌&&◌, ◌||◌, not, sym, ap, ◌∙◌, subst, arith, true≢false, refl, if◌then◌else◌, ◌-◌, List, ◌∷◌, Result, Ok, Err, IfOk}
 use Rattle.std.specs.Prelude.{nat_lt, nat_le}
 use Rattle.js_tree.specs.declared.token.Token.{Token}
 use Rattle.js_tree.specs.declared.token_kind.TokenKind.{TokenKind}
 use Rattle.js_tree.specs.declared.token_kind.TokenKind.TheVariants as kinds
+use Rattle.std.proofs.lemmas.Bool.Decides.{nat_tests}
 use Rattle.js_tree.specs.Lexical.{Next}
 use Rattle.js_tree.specs.Lexing.{Place}
 use Rattle.js_tree.specs.Operators.{is_assignment, is_binary, level_of}
 use Rattle.js_tree.specs.Pieces.{Piece, Tok, one, kind}
+use Rattle.js_tree.specs.Spelling.Nodes.{BINARY, POWER}
 use Rattle.js_tree.specs.TokenKinds.{is}
 use Rattle.js_tree.proofs.KindLemmas.{is_same, every}
 use Rattle.js_tokens.proofs.AheadLemmas.{one_next}
@@ -15,7 +17,8 @@ use Rattle.js_tokens.specs.Ahead.{reads, IsTwin, IsNextKind, IsNextLine}
 use Rattle.js_tokens.specs.Pieces.{OnlyRead, Any, Anywhere, Reads, Gives}
 use Rattle.js_tokens.specs.declared.fault.TokenFault.{TokenFault}
 use Rattle.js_tokens.specs.declared.goal.Goal.TheVariants as goal
-use Rattle.js_parser.specs.Following.{strength, IsStrength, Rests, Stops, separates}
+use Rattle.js_parser.specs.Following.{strength, IsStrength, separates}
+use Rattle.js_parser.specs.Nodes.{IsListRank}
 
 odd_twin : (j k : TokenKind) → IsTwin j k → reads goal.Operator j ≡ true → ⊥
 odd_twin kinds.Regex k w r = true≢false (sym r)
@@ -39,6 +42,10 @@ not_told p k asked e next plain other u rest reads any anywhere =
     absurd (true≢false (sym reads.2 ∙ ap (is asked) same ∙ other))
 
 -- STRENGTH
+
+second : (a b : Bool) → (a && b) ≡ true → b ≡ true
+second true b e = e
+second false b e = absurd (true≢false (sym e))
 
 implies : (a b : Bool) → (not a || b) ≡ true → a ≡ true → b ≡ true
 implies true b h e = h
@@ -87,3 +94,63 @@ of_level : (k : TokenKind) (nl : Bool) → 0 < level_of k → strength k nl ≡ 
 unfolding level_check
 of_level k true s = equal _ _ (either (level_of k == 0) _ (every (level_check true) refl k) (grind (arith, nat_tests, s)))
 of_level k false s = equal _ _ (either (level_of k == 0) _ (every (level_check false) refl k) (grind (arith, nat_tests, s)))
+
+-- what separates the operands of a list has the strength of the list
+pub separates_strength : (rank : ℕ) → IsListRank rank → (k : TokenKind) (nl : Bool) → separates rank k ≡ true → strength k nl ≡ rank + 1
+separates_strength rank list k nl h = ⊎_elim (λ (z : rank ≡ 0). comma z) (λ (b : (BINARY ≤ rank) × (rank < POWER)). binary b) list
+  where
+    comma : rank ≡ 0 → strength k nl ≡ rank + 1
+    comma z = of_comma k nl (subst (λ (n : ℕ). separates n k ≡ true) z h) ∙ ap (λ n. n + 1) (sym z)
+
+    level : (BINARY ≤ rank) × (rank < POWER) → is_binary (rank - 2) k ≡ true
+    level b = ap (λ (c : Bool). (if c then is kinds.Comma else is_binary (rank - 2)) k) (sym far) ∙ h
+      where
+        far : (rank == 0) ≡ false
+        far = grind (arith, nat_tests, b.0)
+
+    binary : (BINARY ≤ rank) × (rank < POWER) → strength k nl ≡ rank + 1
+    binary b =
+        let e : level_of k ≡ rank - 2 = equal _ _ (second (nat_le 1 (rank - 2)) _ (level b)) in
+        let s = of_level k nl (omega (arith, e, b.0)) in
+        omega (arith, s, e, b.0)
+
+pub separates_plain : (rank : ℕ) → IsListRank rank → (k : TokenKind) → separates rank k ≡ true → reads goal.Operator k ≡ true
+separates_plain rank list k h = plain_strength k true (omega (arith, separates_strength rank list k true h))
+
+list_check : Bool → TokenKind → Bool
+list_check nl k = nat_le (strength k nl) 3 || (nat_le 14 (strength k nl) || (strength k nl == level_of k + 3))
+
+strong_comma : Bool → TokenKind → Bool
+strong_comma nl k = not (strength k nl == 1) || is kinds.Comma k
+
+pub strength_separates : (rank : ℕ) → IsListRank rank → (k : TokenKind) (nl : Bool) → strength k nl ≡ rank + 1 → separates rank k ≡ true
+unfolding list_check strong_comma
+strength_separates rank list k nl h = ⊎_elim (λ (z : rank ≡ 0). comma nl z h) (λ (b : (BINARY ≤ rank) × (rank < POWER)). binary b (by_level nl h b)) list
+  where
+    comma : (nl : Bool) → rank ≡ 0 → strength k nl ≡ rank + 1 → separates rank k ≡ true
+    comma true z e = subst (λ (n : ℕ). separates n k ≡ true) (sym z) (implies (strength k true == 1) _ (every (strong_comma true) refl k) (grind (arith, nat_tests, e, z)))
+    comma false z e = subst (λ (n : ℕ). separates n k ≡ true) (sym z) (implies (strength k false == 1) _ (every (strong_comma false) refl k) (grind (arith, nat_tests, e, z)))
+
+    by_level : (nl : Bool) → strength k nl ≡ rank + 1 → (BINARY ≤ rank) × (rank < POWER) → level_of k ≡ rank - 2
+    by_level true e b =
+        let c = equal _ _ (either (nat_le 14 (strength k true)) _ (either (nat_le (strength k true) 3) _ (every (list_check true) refl k) (grind (arith, nat_tests, e, b.0))) (grind (arith, nat_tests, e, b.1))) in
+        omega (arith, c, e, b.0)
+    by_level false e b =
+        let c = equal _ _ (either (nat_le 14 (strength k false)) _ (either (nat_le (strength k false) 3) _ (every (list_check false) refl k) (grind (arith, nat_tests, e, b.0))) (grind (arith, nat_tests, e, b.1))) in
+        omega (arith, c, e, b.0)
+
+    binary : (BINARY ≤ rank) × (rank < POWER) → level_of k ≡ rank - 2 → separates rank k ≡ true
+    binary b e =
+        let far : (rank == 0) ≡ false = grind (arith, nat_tests, b.0) in
+        let some : nat_le 1 (rank - 2) ≡ true = grind (arith, nat_tests, b.0) in
+        let here : (level_of k == rank - 2) ≡ true = grind (arith, nat_tests, e) in
+        ap (λ (c : Bool). (if c then is kinds.Comma else is_binary (rank - 2)) k) far ∙ ap (λ (c : Bool). c && (level_of k == rank - 2)) some ∙ here
+
+-- the token that was taken where its kind is told
+pub taken_kind : (asked k : TokenKind) (p q : Place) (t : Token) → IsNextKind p k → is asked k ≡ true → Next p t q → reads goal.Operator (kind t) ≡ true → kind t ≡ asked
+taken_kind asked k p q t next same a r = told p q t k next a r ∙ is_same asked k same
+
+pub taken_ok : (asked k : TokenKind) (p q : Place) (result : Result Token TokenFault) → IsNextKind p k → is asked k ≡ true → IfOk result (λ t. Next p t q × (reads goal.Operator (kind t) ≡ true))
+    → IfOk result (λ t. Next p t q × (kind t ≡ asked))
+taken_ok asked k p q (Ok t) next same a = (a.0, taken_kind asked k p q t next same a.0 a.1)
+taken_ok asked k p q (Err e) next same a = tt

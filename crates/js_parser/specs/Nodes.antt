@@ -111,9 +111,9 @@ abbrev pub ReadsExpr : (level room : ℕ) → Place → Place → Result Value T
 ReadsExpr level room = ReadsAs value_line (ValueAt level room) (ValueStops level)
 
 -- the expression is as it must be, and has this rank and this height above what stands in it
-pub record IsSeen (x : Expr) (below rank : ℕ) (is_target : Bool) : Type 0 where
+pub record IsSeen (x : Expr) (below order : ℕ) (is_target : Bool) : Type 0 where
   pub sound : (expr x).is_sound ≡ true
-  pub rank : rank ≡ (expr x).rank
+  pub rank : order ≡ (expr x).rank
   pub target : is_target ≡ (expr x).is_target
   pub height : below + 1 ≡ (expr x).height
 
@@ -182,14 +182,14 @@ abbrev pub arm_line : Arm Expr → Onto
 arm_line = arm_row pieces expr_line
 
 -- a choice whose first test is the expression
-pub record Chooses (head x : Value) (behind rest : List Piece) : Type 0 where
+pub record Chooses (head x : Value) (more rest : List Piece) : Type 0 where
   pub question : Token
   pub given : Expr
   pub colon : Token
   pub arms : List (Arm Expr)
   pub last : Expr
   pub is : out-Expr x.node ≡ Expr-F.Cond (record { test = head.node; question = question; value = given; colon = colon } ∷ arms) last
-  pub behind : behind ≡ mark pieces kind.Question question (expr_line given (mark pieces kind.Colon colon (each_of arm_line arms (expr_line last rest))))
+  pub behind : more ≡ mark pieces kind.Question question (expr_line given (mark pieces kind.Colon colon (each_of arm_line arms (expr_line last rest))))
 
 -- ARGUMENTS AND TEMPLATES
 
