@@ -1,6 +1,10 @@
 pub mod ExprLemmas
+pub mod HeadLemmas
 pub mod ListLemmas
 pub mod ListedLemmas
+pub mod MadeLemmas
+pub mod OperandLemmas
+pub mod ParenLemmas
 pub mod PlaceLemmas
 pub mod ReadLemmas
 pub mod TokenLemmas

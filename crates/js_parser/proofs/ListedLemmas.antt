@@ -103,10 +103,10 @@ binary_view rank p x rest l first others is e r = subst (λ (n : ℕ). ListView 
           first = first;
           others = others;
           is = e ∙ sym layer;
-          read = subst (λ (line : Further Expr → Onto). Reads p (expr_line first (each_of line others rest))) (sym tests) m.3;
-          stands = m.0;
-          each = sym (all_seen (binary_rank l) others) ∙ m.2;
-          some = sym (empty_seen others) ∙ is_false _ m.1;
+          read = subst (λ (line : Further Expr → Onto). Reads p (expr_line first (each_of line others rest))) (sym tests) m.1.1.1.1;
+          stands = m.1.0;
+          each = sym (all_seen (binary_rank l) others) ∙ m.1.1.1.0;
+          some = sym (empty_seen others) ∙ is_false _ m.1.1.0;
           height = ap (λ (t : Seen). t.height) s ∙ ap (λ n. max (expr first).height n + 1) (height_seen _ others);
         }
 

@@ -94,11 +94,14 @@ impl<
         requires rank { IsListRank rank }
         ensures reads { ReadsOperands rank (self.now.room - 1) reader.old reader.new result }
     {
+        if next_strength(reader) != rank + 1 {
+            return Err(reader.refusal());
+        }
         let Tall {
             node: first,
-            height,
+            height: tall,
         } = self.operand(reader, rank)?;
-        let mut height = height;
+        let mut height = tall;
         let mut all = Items::new(self.alloc);
         all.push(first)?;
         'operands: while next_strength(reader) == rank + 1 {

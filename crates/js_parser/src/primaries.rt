@@ -1,7 +1,9 @@
 //! Primaries (ECMA-262, 12.2).
-ghost use Rattle.std.specs.Prelude.{◌≡◌, ◌<◌};
+ghost use Rattle.std.specs.Prelude.{◌≡◌, ◌<◌, not};
+ghost use Rattle.js_tree.specs.TokenKinds.{is};
+ghost use Rattle.js_tree.specs.declared.token_kind.TokenKind.TheVariants as kinds;
 ghost use Rattle.js_parser.specs.declared.kinds.Primary.TheVariants as sorts;
-ghost use Rattle.js_parser.specs.Following.{LeadsTo};
+ghost use Rattle.js_parser.specs.Following.{Leads, LeadsTo};
 ghost use Rattle.js_parser.specs.Nodes.{Knot, ReadsExpr};
 
 use crate::grammar::Grammar;
@@ -23,7 +25,8 @@ impl<
     pub fn primary(&self, reader: &mut TokenReader<'_>) -> Result<Value, TokenFault>
         requires knot { Knot self.now.room (E.pre self.now.expr) (E.post self.now.expr) (S.pre self.now.stmts) (S.post self.now.stmts) }
         requires some { 0 < self.now.room }
-        ensures reads { ReadsExpr 20 self.now.room reader.old reader.new result }
+        requires told { Leads (λ k. not (is kinds.New k)) reader.old }
+        ensures reads { ReadsExpr 18 self.now.room reader.old reader.new result }
     {
         match primary_of(reader.kind()) {
             Primary::Name => self.name(reader),
@@ -40,7 +43,7 @@ impl<
         requires knot { Knot self.now.room (E.pre self.now.expr) (E.post self.now.expr) (S.pre self.now.stmts) (S.post self.now.stmts) }
         requires some { 0 < self.now.room }
         requires told { LeadsTo sorts.Name reader.old }
-        ensures reads { ReadsExpr 20 self.now.room reader.old reader.new result }
+        ensures reads { ReadsExpr 18 self.now.room reader.old reader.new result }
     {
         let name = mark(self.alloc, reader, TokenKind::Name)?;
         value(self.alloc, reader, self.room, Expr::Name(name), 0, 20, true)
@@ -50,7 +53,7 @@ impl<
         requires knot { Knot self.now.room (E.pre self.now.expr) (E.post self.now.expr) (S.pre self.now.stmts) (S.post self.now.stmts) }
         requires some { 0 < self.now.room }
         requires told { LeadsTo sorts.This reader.old }
-        ensures reads { ReadsExpr 20 self.now.room reader.old reader.new result }
+        ensures reads { ReadsExpr 18 self.now.room reader.old reader.new result }
     {
         let word = mark(self.alloc, reader, TokenKind::This)?;
         value(self.alloc, reader, self.room, Expr::This(word), 0, 20, false)
@@ -61,7 +64,7 @@ impl<
         requires knot { Knot self.now.room (E.pre self.now.expr) (E.post self.now.expr) (S.pre self.now.stmts) (S.post self.now.stmts) }
         requires some { 0 < self.now.room }
         requires told { LeadsTo sorts.Literal reader.old }
-        ensures reads { ReadsExpr 20 self.now.room reader.old reader.new result }
+        ensures reads { ReadsExpr 18 self.now.room reader.old reader.new result }
     {
         let token = reader.take(self.alloc, Goal::Operand)?;
         value(self.alloc, reader, self.room, Expr::Literal(token), 0, 20, false)
@@ -72,7 +75,7 @@ impl<
         requires knot { Knot self.now.room (E.pre self.now.expr) (E.post self.now.expr) (S.pre self.now.stmts) (S.post self.now.stmts) }
         requires some { 0 < self.now.room }
         requires told { LeadsTo sorts.Paren reader.old }
-        ensures reads { ReadsExpr 20 self.now.room reader.old reader.new result }
+        ensures reads { ReadsExpr 18 self.now.room reader.old reader.new result }
     {
         let open = mark(self.alloc, reader, TokenKind::LeftParen)?;
         let inner = self.inner(reader, 0)?;
@@ -91,7 +94,7 @@ impl<
         requires knot { Knot self.now.room (E.pre self.now.expr) (E.post self.now.expr) (S.pre self.now.stmts) (S.post self.now.stmts) }
         requires some { 0 < self.now.room }
         requires told { LeadsTo sorts.Template reader.old }
-        ensures reads { ReadsExpr 20 self.now.room reader.old reader.new result }
+        ensures reads { ReadsExpr 18 self.now.room reader.old reader.new result }
     {
         let Tall { node, height } = self.template(reader)?;
         value(self.alloc, reader, self.room, Expr::Template(node), height, 20, false)
@@ -102,7 +105,7 @@ impl<
         requires knot { Knot self.now.room (E.pre self.now.expr) (E.post self.now.expr) (S.pre self.now.stmts) (S.post self.now.stmts) }
         requires some { 0 < self.now.room }
         requires told { LeadsTo sorts.Function reader.old }
-        ensures reads { ReadsExpr 20 self.now.room reader.old reader.new result }
+        ensures reads { ReadsExpr 18 self.now.room reader.old reader.new result }
     {
         let Tall { node, height } = self.function(reader)?;
         let function = Boxed::new(self.alloc, node)?;

@@ -11,7 +11,7 @@ use Rattle.js_tree.specs.Pieces.{kind as kind_at}
 use Rattle.js_tree.specs.TokenKinds.{is}
 use Rattle.js_tree.specs.Spelling.Chains.{arguments_fit, template_fits, tail_fits, is_call, calls, ends_in_member}
 use Rattle.js_tree.specs.Spelling.Rows.{Writer, mark, each_of, maybe, further_row, bracket_row, template_row, arm_row}
-use Rattle.js_tree.specs.Spelling.Nodes.{Seen, Ending, AfterOperand, AfterUpdate, ASSIGN, COND, BINARY, POWER, UNARY, UPDATE, POSTFIX, CHAIN, NEW, MADE, PRIMARY, binary_rank, stands, is_empty, passes, all_further, last_ending, some_joins_in, is_named, musts, lines, highest_of, some_has}
+use Rattle.js_tree.specs.Spelling.Nodes.{Seen, Ending, AfterOperand, AfterUpdate, ASSIGN, COND, BINARY, LEVELS, POWER, UNARY, UPDATE, POSTFIX, CHAIN, NEW, MADE, PRIMARY, binary_rank, stands, is_empty, passes, all_further, last_ending, some_joins_in, is_named, musts, lines, highest_of, some_has}
 
 -- SPELLING, one line for each kind
 
@@ -57,7 +57,7 @@ arm_fits x = stands BINARY x.test && stands ASSIGN x.value
 abbrev pub is_place : Seen → Bool
 is_place x = x.is_sound && x.is_target
 
--- A Chain has a tail, and it is no direct call of `eval`. A New that has another without arguments as its head has neither tails nor arguments. The base of
+-- A Chain has a tail, and it is no direct call of `eval`. The level of a Binary is one of ten. A New that has another without arguments as its head has neither tails nor arguments. The base of
 -- a Power is no Unary but `++` and `--`. An operand of a level is of a higher one. The last value of a Cond is no Cond
 abbrev pub expr_musts : Expr-F Seen Seen Seen Seen Seen → List Bool
 expr_musts (Expr-F.Template t) = template_fits t ∷ []
@@ -69,7 +69,7 @@ expr_musts (Expr-F.NewTarget word dot target) = bytes_eq target.text (codes "tar
 expr_musts (Expr-F.Postfix target op) = is_place target ∷ []
 expr_musts (Expr-F.Unary op operand) = stands UNARY operand ∷ (not (is_update (kind_at op)) || is_place operand) ∷ []
 expr_musts (Expr-F.Power base op exponent) = stands UPDATE base ∷ stands POWER exponent ∷ []
-expr_musts (Expr-F.Binary level first others) = stands (binary_rank level + 1) first ∷ not (is_empty others) ∷ all_further (stands (binary_rank level + 1)) others ∷ []
+expr_musts (Expr-F.Binary level first others) = nat_le level LEVELS ∷ stands (binary_rank level + 1) first ∷ not (is_empty others) ∷ all_further (stands (binary_rank level + 1)) others ∷ []
 expr_musts (Expr-F.Cond arms last) = not (is_empty arms) ∷ list_all arm_fits arms ∷ stands ASSIGN last ∷ not (last.rank == COND) ∷ []
 expr_musts _ = []
 

@@ -54,6 +54,10 @@ COND = 2
 abbrev pub binary_rank : ℕ → ℕ
 binary_rank l = l + 2
 
+-- the levels of operators between two operands
+abbrev pub LEVELS : ℕ
+LEVELS = 10
+
 abbrev pub BINARY : ℕ
 BINARY = binary_rank 1
 

@@ -1,27 +1,34 @@
-use Rattle.std.proofs.Common.{rules, ◌≡◌, ◌≤◌, ◌<◌, ◌+◌, ◌-◌, true, ℕ, ◌*◌, length, ◌/◌, ◌%◌, Bool, false, nat_eq, nat_lt, List, [], ◌∷◌, ◌++◌, slice_index_or, slice_set, bit_and, bit_or, Fits, w8, w32, w64, Bor, MutBor}
-use Rattle.js_parser.specs.Nodes.{Knot, IsListRank, is_level, ReadsExpr, ReadsOperand, ReadsOperands}
+use Rattle.std.proofs.Common.{◌≡◌, ℕ, ◌+◌, ◌-◌, List, [], ◌∷◌, ◌++◌, refl, sym, ap, ◌∙◌, arith, subst, max}
+use Rattle.js_tree.specs.Pieces.{Piece}
+use Rattle.js_tree.specs.Spelling.{expr}
+use Rattle.js_tree.specs.declared.lists.Further.{Further}
+use Rattle.js_tree.specs.declared.tree.Expr.{Expr}
+use Rattle.js_parser.proofs.ListLemmas.{Progress, begun, one_more, finished, refused, tallest-push}
+use Rattle.js_parser.proofs.OperandLemmas.{IsOperand, tall_operand, operand_at, operand_is, operands_of, operands_at, operand_stops, goes_on, goes_no_further, some_pushed}
+use Rattle.js_parser.proofs.PlaceLemmas.{passes_none, passes_on}
+use Rattle.js_parser.proofs.ReadLemmas.{want, gives, failed, refused_here}
+use Rattle.js_parser.specs.Following.{Stops, IsStrength}
+use Rattle.js_parser.specs.Nodes.{further_line, further_height}
+use Rattle.js_parser.specs.declared.tall.Tall.{Tall}
 use Rattle.js_parser.proofs.grammar.Grammar.operands.Goals as goal
 
--- src/expressions.rt:100:13
+pub returns-then-next_strength-rank : goal.returns-then-next_strength-rank
+returns-then-next_strength-rank g c = ?
+
 pub returns-in_err-first : goal.returns-in_err-first
 returns-in_err-first g c = ?
 
--- src/expressions.rt:104:9
 pub operands-init : goal.operands-init
 operands-init g c = ?
 
--- src/expressions.rt:108:17
 pub returns-in_err-next : goal.returns-in_err-next
 returns-in_err-next g c = ?
 
--- src/expressions.rt:104:9
 pub operands-smaller : goal.operands-smaller
 operands-smaller g c = ?
 
--- src/expressions.rt:104:9
 pub operands-preserved : goal.operands-preserved
 operands-preserved g c = ?
 
--- src/expressions.rt:87:5
 pub returns : goal.returns
 returns g c = ?
