@@ -125,6 +125,9 @@ is_of (IsNewTarget word dot target e) = tt
 is_of (IsNew word head tails args e) = tt
 
 -- a token of one kind is the one that is told
+pub token_told : (p q : Place) (k asked : TokenKind) (t : Token) → IsNextKind p k → reads goal.Operator asked ≡ true → Next p t q → is asked (kind_of t) ≡ true → k ≡ asked
+token_told p q k asked t next plain a h = sym (told p q t k next a (only_plain asked plain (kind_of t) h)) ∙ is_same asked (kind_of t) h
+
 pub one_told : (p : Place) (k asked : TokenKind) (t : Token) (rest : List Piece) → IsNextKind p k → reads goal.Operator asked ≡ true → Reads p (Tok t (is asked) ∷ rest) → k ≡ asked
 one_told p k asked t rest next plain r = sym (told p r.0 t k next r.1 (only_plain asked plain (kind_of t) r.2)) ∙ is_same asked (kind_of t) r.2
 
@@ -168,10 +171,15 @@ sort_told p x rest k next r (IsFun f e) = ap primary_of (by_function (out-Functi
     by_function : (l : FunctionLayer) → out-Function f ≡ l → k ≡ kinds.Function
     by_function (Function-F.Keyword word name params body) is =
         let line = at_line p x rest (Expr-F.«Expr::Fun» f) e r in
-        let m : Reads p _ = subst (λ (ps : List Piece). Reads p ps) (function_line f rest ∙ ap (λ l. musts (function_musts (function_layer l)) (function_row seen_lines l rest)) is) line in
-        one_told p k kinds.Function word _ next refl m.1
-sort_told p x rest k next r (IsNewTarget word dot target e) = ap primary_of (one_told p k kinds.New word _ next refl (at_line p x rest (Expr-F.NewTarget word dot target) e r).1)
-sort_told p x rest k next r (IsNew word head tails args e) = ap primary_of (one_told p k kinds.New word _ next refl (at_line p x rest (Expr-F.New word head tails args) e r).1.1.1.1.1)
+        let m : Reads p (musts (function_musts (function_layer (Function-F.Keyword word name params body))) (function_row seen_lines (Function-F.Keyword word name params body) rest)) =
+            subst (λ (ps : List Piece). Reads p ps) (function_line f rest ∙ ap (λ l. musts (function_musts (function_layer l)) (function_row seen_lines l rest)) is) line in
+        token_told p m.1.0 k kinds.Function word next refl m.1.1 m.1.2
+sort_told p x rest k next r (IsNewTarget word dot target e) =
+    let m = at_line p x rest (Expr-F.NewTarget word dot target) e r in
+    ap primary_of (token_told p m.1.0 k kinds.New word next refl m.1.1 m.1.2)
+sort_told p x rest k next r (IsNew word head tails args e) =
+    let m = at_line p x rest (Expr-F.New word head tails args) e r in
+    ap primary_of (token_told p m.1.1.1.1.1.0 k kinds.New word next refl m.1.1.1.1.1.1 m.1.1.1.1.1.2)
 
 -- what stands where a primary of the sort begins
 pub of_sort : (p : Place) (x : Expr) (rest : List Piece) (sort : Primary) → LeadsTo sort p → Reads p (expr_line x rest) → nat_le NEW (expr x).rank ≡ true → IsOf sort x

@@ -7,4 +7,5 @@ pub mod OperandLemmas
 pub mod ParenLemmas
 pub mod PlaceLemmas
 pub mod ReadLemmas
+pub mod TailLemmas
 pub mod TokenLemmas

@@ -14,7 +14,7 @@ tallest-push height [] x = omega arith
 tallest-push height (y ∷ ys) x = let e = tallest-push height ys x in omega arith
 
 -- each item is as it must be
-pub AllOf : {X : Type 0} → (X → Type 0) → List X → Type 0
+unfoldable pub AllOf : {X : Type 0} → (X → Type 0) → List X → Type 0
 AllOf P [] = Unit {0}
 AllOf P (x ∷ xs) = P x × AllOf P xs
 

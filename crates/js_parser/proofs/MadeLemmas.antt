@@ -2,7 +2,7 @@
 use Rattle.std.proofs.Common.{◌≡◌, ℕ, ◌+◌, Bool, true, List, ◌∷◌, sym, ap, ◌∙◌, subst}
 use Rattle.js_tree.specs.declared.token.Token.{Token}
 use Rattle.js_tree.specs.declared.token_kind.TokenKind.{TokenKind}
-use Rattle.js_tree.specs.declared.tree.Expr.{Expr, roll-Expr, out-roll-Expr}
+use Rattle.js_tree.specs.declared.tree.Expr.{Expr, out-Expr, roll-Expr, out-roll-Expr}
 use Rattle.js_tree.specs.Folds.{ExprLayer}
 use Rattle.js_tree.specs.Lexical.{Next}
 use Rattle.js_tree.specs.Lexing.{Place}
@@ -15,11 +15,14 @@ use Rattle.js_tree.proofs.SpellingLemmas.{at_expr, expr_layer, expr_line_at, see
 use Rattle.js_tokens.specs.Pieces.{Reads, Read}
 use Rattle.js_parser.specs.Nodes.{IsSeen, expr_line}
 
+out_of : (l : ExprLayer) (x : Expr) → roll-Expr l ≡ x → out-Expr x ≡ l
+out_of l x is = ap out-Expr (sym is) ∙ out-roll-Expr l
+
 -- what is seen of the node of a layer
-pub seen_at : (l : ExprLayer) (below order : ℕ) (target : Bool) → expr_sound (expr_layer l) ≡ true → order ≡ expr_rank (expr_layer l) → target ≡ expr_target (expr_layer l)
-    → below ≡ expr_row highest_of (expr_layer l) 0 → IsSeen (roll-Expr l) below order target
-seen_at l below order target sound rank is_target height =
-    let s = sym (at_expr (roll-Expr l) l (out-roll-Expr l)) in
+pub seen_at : (l : ExprLayer) (x : Expr) → roll-Expr l ≡ x → (below order : ℕ) (target : Bool) → expr_sound (expr_layer l) ≡ true → order ≡ expr_rank (expr_layer l) → target ≡ expr_target (expr_layer l)
+    → below ≡ expr_row highest_of (expr_layer l) 0 → IsSeen x below order target
+seen_at l x is below order target sound rank is_target height =
+    let s = sym (at_expr x l (out_of l x is)) in
     record {
       sound = sym (ap (λ (t : Seen). t.is_sound) s) ∙ sound;
       rank = rank ∙ ap (λ (t : Seen). t.rank) s;
@@ -28,8 +31,8 @@ seen_at l below order target sound rank is_target height =
     }
 
 -- the line of the node of a layer
-pub read_at : (l : ExprLayer) (p m : Place) → ((rest : List Piece) → Reads m rest → Reads p (musts (expr_musts (expr_layer l)) (expr_row seen_lines l rest))) → Read p (expr_line (roll-Expr l)) m
-read_at l p m f rest r = subst (λ (ps : List Piece). Reads p ps) (sym (expr_line_at (roll-Expr l) l (out-roll-Expr l) rest)) (f rest r)
+pub read_at : (l : ExprLayer) (x : Expr) → roll-Expr l ≡ x → (p m : Place) → ((rest : List Piece) → Reads m rest → Reads p (musts (expr_musts (expr_layer l)) (expr_row seen_lines l rest))) → Read p (expr_line x) m
+read_at l x is p m f rest r = subst (λ (ps : List Piece). Reads p ps) (sym (expr_line_at x l (out_of l x is) rest)) (f rest r)
 
 -- a token of one kind in front
 pub mark_read : (p m : Place) (t : Token) (k : TokenKind) (rest : List Piece) → Next p t m → kind t ≡ k → Reads m rest → Reads p (Tok t (is k) ∷ rest)

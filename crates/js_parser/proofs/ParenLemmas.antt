@@ -1,6 +1,7 @@
 -- An expression in brackets, and what stands behind an expression.
 use Rattle.std.proofs.Common.{◌≡◌, ℕ, ◌+◌, ◌-◌, ◌<◌, ◌≤◌, max, Bool, true, false, ◌&&◌, List, ◌∷◌, refl, sym, ap, ◌∙◌, subst, arith, true≢false}
 use Rattle.std.specs.Prelude.{nat_le}
+use Rattle.std.proofs.lemmas.Bool.Decides.{nat_tests}
 use Rattle.js_tree.specs.Lexing.{Place}
 use Rattle.js_tree.specs.Pieces.{Piece, Tok, kind as kind_of}
 use Rattle.js_tree.specs.Spelling.{expr}
@@ -35,7 +36,10 @@ sound_of false b e = absurd (true≢false (sym e))
 
 -- a sound expression stands where each does
 pub stands_any : (x : Expr) → (expr x).is_sound ≡ true → stands 0 (expr x) ≡ true
-stands_any x e = ap (λ (b : Bool). b && nat_le 0 (expr x).rank) e
+stands_any x e = ap (λ (b : Bool). b && nat_le 0 (expr x).rank) e ∙ zero_least (expr x).rank
+  where
+    zero_least : (n : ℕ) → nat_le 0 n ≡ true
+    zero_least n = grind (arith, nat_tests)
 
 pub inner_at : (room : ℕ) (x : Value) (begin : Token) (inner : Expr) (end : Token) → out-Expr x.node ≡ Expr-F.«Expr::Paren» begin inner end → ValueAt NEW room x → ValueAt 0 (room - 1) (value_of inner)
 inner_at room x begin inner end e at =

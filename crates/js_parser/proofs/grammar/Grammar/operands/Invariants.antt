@@ -8,7 +8,7 @@ use Rattle.js_parser.proofs.grammar.Grammar.operands.Given as goal
 
 abbrev pub invariant-operands : goal.invariant-operands
 invariant-operands g l = record {
-  progress : Progress (further_line l.rank) (IsOperand l.rank (l.self.now.room - 1)) (Stops l.rank) l.fn.reader l.all l.reader;
+  progress : Progress (further_line l.rank) (IsOperand l.rank (l.self.room - 1)) (Stops l.rank) l.fn.reader l.all l.reader;
   some : is_empty l.all ≡ false;
   height : l.height ≡ further_height l.all;
   shorter : length l.reader.left < length l.fn.reader.left;

@@ -4,6 +4,7 @@ use Rattle.js_tree.specs.Spelling.Nodes.{pieces}
 use Rattle.js_tree.specs.Spelling.Rows.{mark}
 use Rattle.js_tree.specs.declared.token_kind.TokenKind.TheVariants as kinds
 use Rattle.js_tree.specs.declared.tree.Expr.TheOpen.{Expr-F}
+use Rattle.js_tree.specs.declared.tree.Expr.TheVariants.{rolls-Paren}
 use Rattle.js_tree.specs.declared.tree.Expr.{roll-Expr}
 use Rattle.js_parser.proofs.ExprLemmas.{value_of, made, node_of}
 use Rattle.js_parser.proofs.HeadLemmas.{of_sort, at_line, high}
@@ -45,12 +46,12 @@ returns-in_err-close g c = record {
 pub value-requires : goal.value-requires
 value-requires g c =
     let w = c.in_ok-inner.ensures.reads.found.1 in
-    record { seen = seen_at (Expr-F.«Expr::Paren» c.in_ok-open.open c.in_ok-inner.inner.node c.in_ok-close.close) _ 20 _ (sound_at 0 _ _ w) refl w.target (omega (arith, w.height)) }
+    record { seen = seen_at (Expr-F.«Expr::Paren» c.in_ok-open.open c.in_ok-inner.inner.node c.in_ok-close.close) _ (rolls-Paren c.in_ok-open.open c.in_ok-inner.inner.node c.in_ok-close.close) _ 20 _ (sound_at 0 _ _ w) refl w.target (omega (arith, w.height)) }
 
 pub returns : goal.returns
 returns g c = record {
   reads = made 20 _ 18 _ _ _ _ c.value.ensures.made (omega arith)
-    (read_at (Expr-F.«Expr::Paren» c.in_ok-open.open c.in_ok-inner.inner.node c.in_ok-close.close) _ _
+    (read_at (Expr-F.«Expr::Paren» c.in_ok-open.open c.in_ok-inner.inner.node c.in_ok-close.close) _ (rolls-Paren c.in_ok-open.open c.in_ok-inner.inner.node c.in_ok-close.close) _ _
     (λ rest r. mark_read _ _ _ kinds.LeftParen _ c.in_ok-open.ensures.found.0 c.in_ok-open.ensures.found.1
         (c.in_ok-inner.ensures.reads.found.0 (mark pieces kinds.RightParen c.in_ok-close.close rest)
         (mark_read _ _ _ kinds.RightParen rest c.in_ok-close.ensures.found.0 c.in_ok-close.ensures.found.1 r))))
@@ -61,5 +62,5 @@ returns g c = record {
         let g0 = c.in_ok-open.ensures.only v.0 (expr_line v.1 (mark pieces kinds.RightParen v.2 rest)) (at_line _ x.node rest (Expr-F.«Expr::Paren» v.0 v.1 v.2) v.3 r) tt tt in
         let g1 = c.in_ok-inner.ensures.reads.only (value_of v.1) (mark pieces kinds.RightParen v.2 rest) g0.1 (inner_at _ x v.0 v.1 v.2 v.3 at) (paren_stops v.2 rest) in
         let g2 = c.in_ok-close.ensures.only v.2 rest g1.1 tt tt in
-        ((λ i. roll-Expr (Expr-F.«Expr::Paren» (g0.0 i) (g1.0 i).node (g2.0 i))) ∙ node_of x.node (Expr-F.«Expr::Paren» v.0 v.1 v.2) v.3, g2.1));
+        (sym (rolls-Paren c.in_ok-open.open c.in_ok-inner.inner.node c.in_ok-close.close) ∙ (λ i. roll-Expr (Expr-F.«Expr::Paren» (g0.0 i) (g1.0 i).node (g2.0 i))) ∙ node_of x.node (Expr-F.«Expr::Paren» v.0 v.1 v.2) v.3, g2.1));
 }

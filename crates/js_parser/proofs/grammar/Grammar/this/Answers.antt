@@ -1,5 +1,6 @@
 use Rattle.std.proofs.Common.{refl, sym, ap, ◌∙◌, true, false, arith}
 use Rattle.js_tree.specs.declared.tree.Expr.TheOpen.{Expr-F}
+use Rattle.js_tree.specs.declared.tree.Expr.TheVariants.{rolls-This}
 use Rattle.js_tree.specs.declared.tree.Expr.{roll-Expr, out-roll-Expr}
 use Rattle.js_tree.specs.declared.token_kind.TokenKind.TheVariants as kinds
 use Rattle.js_parser.proofs.ExprLemmas.{made, node_of}
@@ -19,14 +20,14 @@ returns-in_err-word g c = record {
 }
 
 pub value-requires : goal.value-requires
-value-requires g c = record { seen = seen_at (Expr-F.This c.in_ok-word.word) 0 20 false refl refl refl refl }
+value-requires g c = record { seen = seen_at (Expr-F.This c.in_ok-word.word) _ (rolls-This c.in_ok-word.word) 0 20 false refl refl refl refl }
 
 pub returns : goal.returns
 returns g c = record {
   reads = made 20 _ 18 _ _ _ _ c.value.ensures.made (omega arith)
-    (read_at (Expr-F.This c.in_ok-word.word) _ _ (λ rest r. mark_read _ _ _ kinds.This rest c.in_ok-word.ensures.found.0 c.in_ok-word.ensures.found.1 r)) c.in_ok-word.ensures.moves c.in_ok-word.ensures.shorter
+    (read_at (Expr-F.This c.in_ok-word.word) _ (rolls-This c.in_ok-word.word) _ _ (λ rest r. mark_read _ _ _ kinds.This rest c.in_ok-word.ensures.found.0 c.in_ok-word.ensures.found.1 r)) c.in_ok-word.ensures.moves c.in_ok-word.ensures.shorter
     (λ x rest r at s.
         let v = of_sort _ x.node rest sorts.This c.requires.told r (high _ x at) in
         let g0 = c.in_ok-word.ensures.only v.0 rest (at_line _ x.node rest (Expr-F.This v.0) v.1 r) tt tt in
-        (ap (λ t. roll-Expr (Expr-F.This t)) g0.0 ∙ node_of x.node (Expr-F.This v.0) v.1, g0.1));
+        (sym (rolls-This c.in_ok-word.word) ∙ ap (λ t. roll-Expr (Expr-F.This t)) g0.0 ∙ node_of x.node (Expr-F.This v.0) v.1, g0.1));
 }
