@@ -1,6 +1,11 @@
+pub mod BeginLemmas
+pub mod BracketLemmas
 pub mod ExprLemmas
+pub mod FunctionLemmas
 pub mod ListLemmas
 pub mod ListedLemmas
 pub mod PlaceLemmas
 pub mod ReadLemmas
+pub mod SlotLemmas
+pub mod StmtLemmas
 pub mod TokenLemmas

@@ -2,12 +2,12 @@
 ghost use Rattle.std.specs.Prelude.{◌≡◌, ◌≤◌, ◌<◌, ◌-◌};
 ghost use Rattle.js_parser.specs.Nodes.{Knot, ReadsFunction, ReadsParameters, ReadsParameter, ReadsBlock};
 
+use crate::brackets::{goes_on, put};
 use crate::grammar::Grammar;
-use crate::kinds::are_same;
 use crate::marks::{mark, maybe_mark};
 use crate::tall::{Tall, Value, higher};
 use js_tokens::{TokenFault, TokenReader};
-use js_tree::{Block, Bracket, Element, Function, Listed, Pattern, Slot, Stmt, TokenKind};
+use js_tree::{Block, Bracket, Element, Function, Pattern, Slot, Stmt, TokenKind};
 use sqlite_items::Items;
 use std::alloc::Global;
 
@@ -65,18 +65,14 @@ fn parameters(
     let mut front = Items::new(alloc);
     let mut last = None;
     let mut height = 0;
-    'parameters: while last.is_none() && !are_same(TokenKind::RightParen, reader.kind()) {
+    'parameters: while goes_on(&last, reader.kind()) {
         let Tall {
             node: item,
             height: tall,
         } = parameter(alloc, reader, room)?;
+        let comma = maybe_mark(alloc, reader, TokenKind::Comma)?;
         height = higher(height, tall);
-        if are_same(TokenKind::Comma, reader.kind()) {
-            let mark = mark(alloc, reader, TokenKind::Comma)?;
-            front.push(Listed { item, mark })?;
-        } else {
-            last = Some(item);
-        }
+        put(&mut front, &mut last, item, comma)?;
     }
     let close = mark(alloc, reader, TokenKind::RightParen)?;
     Ok(Tall {
