@@ -33,7 +33,7 @@ use Rattle.js_tokens.proofs.PieceLemmas.{seen}
 use Rattle.js_tokens.specs.Ahead.{Blind, IsNextKind, reads}
 use Rattle.js_tokens.specs.Pieces.{Reads, AllHold}
 use Rattle.js_tokens.specs.declared.goal.Goal.TheVariants as goal
-use Rattle.js_parser.proofs.TokenLemmas.{only_plain}
+use Rattle.js_parser.proofs.TokenLemmas.{only_plain, told}
 use Rattle.js_parser.specs.Following.{strength, Stops, NoKind}
 
 -- the pieces begin with a token of these kinds, which stands next
@@ -202,3 +202,25 @@ expr_begins x = along_parts Begins in_node (AnExpr x)
 -- a token of a kind, in front of what follows
 pub with_mark : (k : TokenKind) (p m : Place) (t : Token) (rest : List Piece) → Next p t m → kind t ≡ k → Reads m rest → Reads p (Tok t (is k) ∷ rest)
 with_mark k p m t rest next same r = (m, next, ap (is k) same ∙ is_itself k, r)
+
+-- WHAT IS TOLD
+
+-- the token that is told stands next
+pub next_of : (asked : TokenKind) → is asked kinds.End ≡ false → (p : Place) (k : TokenKind) → IsNextKind p k → is asked k ≡ true → (t : Token) × (n : Place) × Next p t n × (kind t ≡ asked)
+next_of asked some p k next h = let t = next.some (λ e. true≢false (sym h ∙ ap (is asked) e ∙ some)) in (t.0, t.1, t.2, t.3 ∙ is_same asked k h)
+
+-- an expression that ends before the pieces would go on with it
+pub stops_told : (level s : ℕ) (asked : TokenKind) → is asked kinds.End ≡ false → reads goal.Operator asked ≡ true → ((nl : Bool) → strength asked nl ≡ s) → level < s
+    → (p : Place) (k : TokenKind) → IsNextKind p k → is asked k ≡ true → (rest : List Piece) → Stops level rest → Reads p rest → ⊥
+stops_told level s asked some plain strong low p k next h rest stops r =
+    let t = next_of asked some p k next h in
+    let e : strength (kind t.0) t.0.nl_before ≡ s = ap (λ (j : TokenKind). strength j t.0.nl_before) t.3 ∙ strong t.0.nl_before in
+    omega (arith, e, low, stops p r t.0 t.1 t.2 (ap (reads goal.Operator) t.3 ∙ plain))
+
+-- another token is told
+pub other_told : (asked : TokenKind) → reads goal.Operator asked ≡ true → (p : Place) (k : TokenKind) → IsNextKind p k → is asked k ≡ false → (t : Token) (rest : List Piece) → Reads p (Tok t (is asked) ∷ rest) → ⊥
+other_told asked plain p k next other t rest r = true≢false (sym r.2 ∙ ap (is asked) (told p r.0 t k next r.1 (only_plain asked plain (kind t) r.2)) ∙ other)
+
+-- no expression begins with the token that is told
+pub expr_told : (p : Place) (k : TokenKind) → IsNextKind p k → begins_expr k ≡ false → (x : Expr) (rest : List Piece) → Reads p ((expr x).line rest) → ⊥
+expr_told p k next other x rest r = true≢false (sym (front_told begins_expr blind_expr p _ k next (expr_begins x p rest r)) ∙ other)

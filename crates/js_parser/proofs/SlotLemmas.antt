@@ -5,6 +5,7 @@ use Rattle.std.specs.Prelude.{nat_le}
 use Rattle.js_tree.specs.declared.lists.Further.{Further}
 use Rattle.js_tree.specs.declared.lists.Init.{Init}
 use Rattle.js_tree.specs.declared.token.Token.{Token}
+use Rattle.js_tree.specs.declared.token_kind.TokenKind.{TokenKind}
 use Rattle.js_tree.specs.declared.token_kind.TokenKind.TheVariants as kinds
 use Rattle.js_tree.specs.declared.tree.Expr.{Expr}
 use Rattle.js_tree.specs.declared.tree.Expr.TheOpen.{Pattern-F}
@@ -20,11 +21,12 @@ use Rattle.js_tree.specs.Spelling.Patterns.{DECLARED, pattern_step, slot_row, sl
 use Rattle.js_tree.specs.TokenKinds.{is}
 use Rattle.js_tree.proofs.Folds.{map_init, map_maybe}
 use Rattle.js_tree.proofs.SpellingLemmas.{at_pattern, at-Slot, seen_lines, slot_line as line_of}
+use Rattle.js_tokens.specs.Ahead.{IsNextKind}
 use Rattle.js_tokens.specs.Pieces.{Reads}
-use Rattle.js_parser.proofs.BeginLemmas.{stops_before, stops_higher}
+use Rattle.js_parser.proofs.BeginLemmas.{other_told, stops_before, stops_higher, stops_told}
 use Rattle.js_parser.proofs.ListLemmas.{AllOf}
 use Rattle.js_parser.specs.Following.{Stops}
-use Rattle.js_parser.specs.Nodes.{FurtherSlotAt, SlotAt, SlotsAt, init_height, init_line, init_stands, slot_line, slots_line}
+use Rattle.js_parser.specs.Nodes.{FurtherSlotAt, SlotAt, SlotsAt, expr_line, further_slot_line, init_height, init_line, init_stands, slot_line, slots_line}
 use Rattle.js_parser.specs.declared.tall.Tall.{Tall}
 
 -- a declared name and what it is given
@@ -123,6 +125,17 @@ tall_slot x = record { node = x; height = (slot x).height }
 pub slot_at : (room : ℕ) (x : Slot) → stands DECLARED (slot x) ≡ true → (slot x).height ≤ room → SlotAt room (tall_slot x)
 slot_at room x good low = record { stands = good; height = refl; fits = low }
 
+-- WHAT A NAME IS GIVEN
+
+pub init_none : (p : Place) (k : TokenKind) → IsNextKind p k → is kinds.Assign k ≡ false → (o : Option (Init Expr)) (rest : List Piece) → Reads p (init_line o rest) → o ≡ None
+init_none p k next other None rest r = refl
+init_none p k next other (Some i) rest r = absurd (other_told kinds.Assign refl p k next other i.equals (expr_line i.value rest) r)
+
+pub init_view : (p : Place) (k : TokenKind) → IsNextKind p k → is kinds.Assign k ≡ true → (o : Option (Init Expr)) (rest : List Piece) → Stops ASSIGN rest → Reads p (init_line o rest)
+    → (i : Init Expr) × (o ≡ Some i) × Reads p (Tok i.equals (is kinds.Assign) ∷ expr_line i.value rest)
+init_view p k next here None rest stops r = absurd (stops_told ASSIGN 2 kinds.Assign refl refl (λ nl. refl) (omega arith) p k next here rest stops r)
+init_view p k next here (Some i) rest stops r = (i, refl, r)
+
 -- FURTHER SLOTS
 
 abbrev pub IsFurtherSlot : ℕ → Further Slot → Type 0
@@ -157,3 +170,10 @@ slots_at room height xs a is = let m = of_all room xs a in record { each = m.0; 
 pub slot_stops : (xs : List (Further Slot)) (rest : List Piece) → Stops 0 rest → Stops ASSIGN (slots_line xs rest)
 slot_stops [] rest s = stops_higher 0 ASSIGN rest (omega arith) s
 slot_stops (x ∷ xs) rest s = stops_before ASSIGN 1 kinds.Comma refl (λ nl. refl) (omega arith) x.mark (slot_line x.item (slots_line xs rest))
+
+-- no further slot follows where the next token is no comma, and one does where it is
+pub no_slot : (p : Place) (k : TokenKind) → IsNextKind p k → is kinds.Comma k ≡ false → (x : Further Slot) (rest : List Piece) → Reads p (further_slot_line x rest) → ⊥
+no_slot p k next other x rest r = other_told kinds.Comma refl p k next other x.mark (slot_line x.item rest) r
+
+pub some_slot : (p : Place) (k : TokenKind) → IsNextKind p k → is kinds.Comma k ≡ true → (rest : List Piece) → Stops 0 rest → Reads p rest → ⊥
+some_slot p k next here rest stops r = stops_told 0 1 kinds.Comma refl refl (λ nl. refl) (omega arith) p k next here rest stops r

@@ -1,5 +1,5 @@
 -- A statement as its parts, by the kind that is told of the next token, and a statement made of parts.
-use Rattle.std.proofs.Common.{◌≡◌, ℕ, ◌+◌, max, map, Bool, true, false, ◌&&◌, ◌||◌, not, List, [], ◌∷◌, Option, Some, None, is_some, refl, sym, ap, ◌∙◌, subst, true≢false}
+use Rattle.std.proofs.Common.{◌≡◌, ℕ, ◌+◌, ◌≤◌, arith, max, map, Bool, true, false, ◌&&◌, ◌||◌, not, List, [], ◌∷◌, Option, Some, None, is_some, refl, sym, ap, ◌∙◌, subst, true≢false}
 use Rattle.std.specs.List.{list_all}
 use Rattle.js_tree.specs.declared.lists.Further.{Further}
 use Rattle.js_tree.specs.declared.token.Token.{Token}
@@ -13,7 +13,7 @@ use Rattle.js_tree.specs.declared.tree.Stmt.{Stmt, out-Stmt, roll-Stmt, roll-out
 use Rattle.js_tree.specs.declared.tree.Stmt.TheVariants as made
 use Rattle.js_tree.specs.Folds.{StmtLayer}
 use Rattle.js_tree.specs.Lexing.{Place}
-use Rattle.js_tree.specs.Operators.{begins_plain}
+use Rattle.js_tree.specs.Operators.{begins_plain, on_line}
 use Rattle.js_tree.specs.Pieces.{Piece, Tok, Must, Holds, first as first_of, kind}
 use Rattle.js_tree.specs.Spelling.{expr, function, slot, stmt, tallest_of}
 use Rattle.js_tree.specs.Spelling.Nodes.{Seen, unmarked, stands, all_further}
@@ -24,13 +24,13 @@ use Rattle.js_tree.proofs.Folds.{map_further}
 use Rattle.js_tree.proofs.KindLemmas.{every, is_same}
 use Rattle.js_tree.proofs.SpellingLemmas.{at_stmt, stmt_line_at}
 use Rattle.js_tokens.proofs.PieceLemmas.{seen}
-use Rattle.js_tokens.specs.Ahead.{Blind, IsNextKind, reads}
+use Rattle.js_tokens.specs.Ahead.{Blind, IsNextKind, IsNextLine, reads}
 use Rattle.js_tokens.specs.Pieces.{Reads, AllHold}
 use Rattle.js_tokens.specs.declared.goal.Goal.TheVariants as goal
-use Rattle.js_parser.proofs.BeginLemmas.{Front, begins_expr, blind_expr, expr_begins, front_told, function_begins, holds_from}
+use Rattle.js_parser.proofs.BeginLemmas.{Front, begins_expr, blind_expr, expr_begins, expr_told, front_told, function_begins, holds_from, other_told, stops_before}
 use Rattle.js_parser.proofs.TokenLemmas.{only_plain, told}
-use Rattle.js_parser.specs.Following.{LeadsToStmt, statement_of}
-use Rattle.js_parser.specs.Nodes.{expr_line, given_height, given_line, given_stands, slot_line, slots_line, stmt_line}
+use Rattle.js_parser.specs.Following.{LeadsToStmt, Stops, statement_of}
+use Rattle.js_parser.specs.Nodes.{BeforeSemicolon, expr_line, given_height, given_line, given_stands, slot_line, slots_line, stmt_line}
 use Rattle.js_parser.specs.declared.kinds.Statement.{Statement}
 use Rattle.js_parser.specs.declared.kinds.Statement.TheVariants as sorts
 
@@ -272,3 +272,36 @@ fun_made p f rest named r = subst (λ (ps : List Piece). Reads p ps) (sym (stmt_
 
 pub fun_tall : (f : Function) → (stmt (made.Fun f)).height ≡ (function f).height + 1
 fun_tall f = ap (λ (t : Seen). t.height) (at_stmt _ (Stmt-F.«Stmt::Fun» f) (made.outs-Fun f))
+
+-- WHAT A FUNCTION GIVES
+
+-- before a `;` nothing is given
+pub given_none : (p : Place) (k : TokenKind) → IsNextKind p k → is kinds.Semicolon k ≡ true → (o : Option Expr) (rest : List Piece) → Reads p (given_line o rest) → o ≡ None
+given_none p k next h None rest r = refl
+given_none p k next h (Some x) rest r = absurd (expr_told p k next (ap begins_expr (is_same kinds.Semicolon k h)) x rest r.1)
+
+not_ended : (p : Place) (k : TokenKind) → IsNextKind p k → is kinds.Semicolon k ≡ false → (rest : List Piece) → BeforeSemicolon rest → Reads p rest → ⊥
+not_ended p k next other [] ends r = ends
+not_ended p k next other (x ∷ xs) ends r = other_told kinds.Semicolon refl p k next other ends.0 xs (subst (λ (y : Piece). Reads p (y ∷ xs)) ends.1 r)
+
+-- before another token something is given
+pub given_view : (p : Place) (k : TokenKind) → IsNextKind p k → is kinds.Semicolon k ≡ false → (o : Option Expr) (rest : List Piece) → BeforeSemicolon rest → Reads p (given_line o rest)
+    → (x : Expr) × (o ≡ Some x) × Reads p (expr_line x rest)
+given_view p k next other None rest ends r = absurd (not_ended p k next other rest ends r)
+given_view p k next other (Some x) rest ends r = (x, refl, r.1)
+
+-- on the next line nothing is given
+pub given_far : (p : Place) (k : TokenKind) (nl : Bool) → IsNextKind p k → IsNextLine p nl → nl ≡ true → is kinds.Semicolon k ≡ false → (o : Option Expr) (rest : List Piece) → BeforeSemicolon rest
+    → Reads p (given_line o rest) → ⊥
+given_far p k nl next line far other None rest ends r = not_ended p k next other rest ends r
+given_far p k nl next line far other (Some x) rest ends r =
+    let f = expr_begins x p rest r.1 in
+    let here : not f.token.nl_before ≡ true = subst (Holds on_line) f.first r.0 in
+    true≢false (sym here ∙ ap not (line f.token f.behind f.next ∙ far))
+
+pub given_made : (p : Place) (nl : Bool) → IsNextLine p nl → nl ≡ false → (x : Expr) (rest : List Piece) → Reads p (expr_line x rest) → Reads p (given_line (Some x) rest)
+given_made p nl line near x rest r = (holds_from on_line p _ (λ t n a. ap not (line t n a ∙ near)) r, r)
+
+pub before_semicolon : (rest : List Piece) → BeforeSemicolon rest → Stops 0 rest
+before_semicolon [] ends = absurd ends
+before_semicolon (x ∷ xs) ends = subst (λ (y : Piece). Stops 0 (y ∷ xs)) (sym ends.1) (stops_before 0 0 kinds.Semicolon refl (λ nl. refl) (omega arith) ends.0 xs)

@@ -388,12 +388,12 @@ pub record GivenAt (room : ℕ) (x : Tall (Option Expr)) : Type 0 where
   pub fits : x.height ≤ room
 
 -- a `;` follows
-abbrev pub Ends : List Piece → Type 0
-Ends [] = ⊥
-Ends (x ∷ xs) = (t : Token) × (x ≡ Tok t (is kind.Semicolon))
+abbrev pub BeforeSemicolon : List Piece → Type 0
+BeforeSemicolon [] = ⊥
+BeforeSemicolon (x ∷ xs) = (t : Token) × (x ≡ Tok t (is kind.Semicolon))
 
 abbrev pub ReadsGiven : ℕ → Place → Place → Result (Tall (Option Expr)) TokenFault → Type 0
-ReadsGiven room = ReadsMaybe (λ x. given_line x.node) (GivenAt room) (λ x. Ends)
+ReadsGiven room = ReadsMaybe (λ x. given_line x.node) (GivenAt room) (λ x. BeforeSemicolon)
 
 -- statements no taller than the room, with the height of the tallest
 pub record StmtsAt (room : ℕ) (x : Tall (List Stmt)) : Type 0 where
