@@ -1,5 +1,5 @@
 -- A slot as its parts, a slot made of parts, and the slots behind the first one.
-use Rattle.std.proofs.Common.{◌≡◌, ℕ, ◌+◌, ◌-◌, ◌≤◌, ◌<◌, max, Bool, true, false, ◌&&◌, List, [], ◌∷◌, Option, Some, None, refl, sym, ap, ◌∙◌, subst, arith, true≢false}
+use Rattle.std.proofs.Common.{◌≡◌, ℕ, ◌+◌, ◌-◌, ◌≤◌, ◌<◌, max, Bool, true, false, ◌&&◌, List, [], ◌∷◌, Option, Some, None, is_some, not, refl, sym, ap, ◌∙◌, subst, arith, true≢false}
 use Rattle.std.specs.List.{list_all}
 use Rattle.std.specs.Prelude.{nat_le}
 use Rattle.js_tree.specs.declared.lists.Further.{Further}
@@ -16,6 +16,7 @@ use Rattle.js_tree.specs.Folds.{PatternLayer, SlotLayer}
 use Rattle.js_tree.specs.Lexing.{Place}
 use Rattle.js_tree.specs.Pieces.{Piece, Tok}
 use Rattle.js_tree.specs.Spelling.{expr, pattern, slot, tallest_of}
+use Rattle.js_tree.specs.Spelling.Functions.{parameter_fits}
 use Rattle.js_tree.specs.Spelling.Nodes.{Seen, ASSIGN, passes, stands}
 use Rattle.js_tree.specs.Spelling.Patterns.{DECLARED, pattern_step, slot_row, slot_step}
 use Rattle.js_tree.specs.TokenKinds.{is}
@@ -40,6 +41,7 @@ pub record SlotView (p : Place) (x : Slot) (rest : List Piece) : Type 0 where
   pub good : init_stands init ≡ true
   pub read : Reads p (Tok name (is kinds.Name) ∷ init_line init rest)
   pub height : (slot x).height ≡ max 1 (init_height init)
+  pub target : (slot x).is_target ≡ not (is_some init)
 
 both : (a b : Bool) → (a && b) ≡ true → (a ≡ true) × (b ≡ true)
 both true b e = (refl, e)
@@ -57,6 +59,11 @@ named_height : (name : Token) (init : Option (Init Expr)) → (named name init).
 unfolding named
 named_height name None = refl
 named_height name (Some i) = refl
+
+named_target : (name : Token) (init : Option (Init Expr)) → (named name init).is_target ≡ not (is_some init)
+unfolding named
+named_target name None = refl
+named_target name (Some i) = refl
 
 named_stands : (name : Token) (init : Option (Init Expr)) → stands DECLARED (named name init) ≡ init_stands init
 unfolding named
@@ -101,6 +108,7 @@ slot_view p x rest good r = by_target (out-Pattern (out-Slot x).target) refl
       good = sym (named_stands name init) ∙ sym (ap (stands DECLARED) (seen_named x target init name refl f)) ∙ good;
       read = subst (λ (ps : List Piece). Reads p ps) (line_named x target init name refl f rest) r;
       height = ap (λ (t : Seen). t.height) (seen_named x target init name refl f) ∙ named_height name init;
+      target = ap (λ (t : Seen). t.is_target) (seen_named x target init name refl f) ∙ named_target name init;
     }
     by_target (Pattern-F.Member chain) f = low (Pattern-F.Member chain) f (ap (λ (t : Seen). t.rank) (at_pattern target (Pattern-F.Member chain) f))
     by_target (Pattern-F.«Pattern::Paren» begin inner end) f = low (Pattern-F.«Pattern::Paren» begin inner end) f (ap (λ (t : Seen). t.rank) (at_pattern target (Pattern-F.«Pattern::Paren» begin inner end) f))
@@ -117,6 +125,11 @@ slot_stands name init good = ap (stands DECLARED) (slot_seen name init) ∙ name
 
 pub slot_tall : (name : Token) (init : Option (Init Expr)) → (slot (slot_of name init)).height ≡ max 1 (init_height init)
 slot_tall name init = ap (λ (t : Seen). t.height) (slot_seen name init) ∙ named_height name init
+
+-- a name alone may be a parameter
+pub parameter_fit : (name : Token) → parameter_fits (record { dots = None; value = slot (slot_of name None) }) ≡ true
+unfolding named
+parameter_fit name = ap (λ (t : Seen). parameter_fits (record { dots = None; value = t })) (slot_seen name None)
 
 -- a slot with its height
 abbrev pub tall_slot : Slot → Tall Slot
