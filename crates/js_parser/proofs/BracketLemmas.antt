@@ -13,7 +13,7 @@ use Rattle.js_tree.specs.TokenKinds.{is}
 use Rattle.js_tokens.specs.Pieces.{Reads, Read, Passes}
 use Rattle.js_tokens.specs.declared.fault.TokenFault.{TokenFault}
 use Rattle.js_parser.proofs.BeginLemmas.{no_kind_before}
-use Rattle.js_parser.proofs.ListLemmas.{AllOf, each-push, good-push}
+use Rattle.js_parser.proofs.ListLemmas.{AllOf, each-push, good-push, tallest-push}
 use Rattle.js_parser.proofs.PlaceLemmas.{passes_none, passes_on}
 use Rattle.js_parser.proofs.ReadLemmas.{IsWant}
 use Rattle.js_parser.specs.Brackets.{Puts}
@@ -49,6 +49,17 @@ module _ {Y : Type 0} (f : Y → ℕ) where
   bracket_tall b n =
       front_tall b.front (maybe (element_row unmarked taller) b.last n) ∙ ap (max (tallest_of (λ x. f x.item.value) b.front)) (last_tall b.last n)
       ∙ three (tallest_of (λ x. f x.item.value) b.front) (last_height (λ x. f x.value) b.last) n
+
+-- an item that is put
+pub puts_height : {X : Type 0} (f : X → ℕ) (x : X) (comma : Option Token) (front : List (Listed X)) (last : Option X) (front' : List (Listed X)) (last' : Option X)
+    → Puts x comma front last front' last' → is_some last ≡ false → inside_height f front' last' ≡ max (inside_height f front last) (f x)
+puts_height f x comma front (Some y) front' last' puts h = absurd (true≢false h)
+puts_height f x None front None front' last' puts h =
+    let e : inside_height f front' last' ≡ max (tallest_of (λ y. f y.item) front) (f x) = (λ i. inside_height f (puts.0 i) (puts.1 i)) in
+    omega (arith, e)
+puts_height f x (Some mark) front None front' last' puts h =
+    let e : inside_height f front' last' ≡ max (tallest_of (λ y. f y.item) (front ++ record { item = x; mark = mark } ∷ [])) 0 = (λ i. inside_height f (puts.0 i) (puts.1 i)) in
+    omega (arith, e, tallest-push (λ (y : Listed _). f y.item) front (record { item = x; mark = mark }))
 
 -- TESTS
 

@@ -4,10 +4,12 @@ use Rattle.std.specs.List.{list_all}
 use Rattle.js_tree.specs.declared.lists.Block.{Block}
 use Rattle.js_tree.specs.declared.lists.Bracket.{Bracket}
 use Rattle.js_tree.specs.declared.lists.Element.{Element}
+use Rattle.js_tree.specs.declared.lists.Init.{Init}
 use Rattle.js_tree.specs.declared.lists.Listed.{Listed}
 use Rattle.js_tree.specs.declared.token.Token.{Token}
 use Rattle.js_tree.specs.declared.token_kind.TokenKind.{TokenKind}
 use Rattle.js_tree.specs.declared.token_kind.TokenKind.TheVariants as kinds
+use Rattle.js_tree.specs.declared.tree.Expr.{Expr}
 use Rattle.js_tree.specs.declared.tree.Expr.TheOpen.{Function-F}
 use Rattle.js_tree.specs.declared.tree.Function.{Function, out-Function, roll-Function, roll-out-Function}
 use Rattle.js_tree.specs.declared.tree.Function.TheVariants as made
@@ -62,7 +64,7 @@ four false true true d e = (refl, refl, refl)
 pub parameter_view : (p : Place) (x : Element Slot) (rest : List Piece) → fits x ≡ true → Reads p (parameter_line x rest) → ParameterView p x rest
 parameter_view p x rest good r = by_dots x.dots x.value refl good r
   where
-    by_init : (value : Slot) (name : Token) (init : Option _) → not (is_some init) ≡ true → value ≡ slot_of name init → Reads p (Tok name (is kinds.Name) ∷ init_line init rest) → (slot value).height ≡ max 1 (init_height init)
+    by_init : (value : Slot) (name : Token) (init : Option (Init Expr)) → not (is_some init) ≡ true → value ≡ slot_of name init → Reads p (Tok name (is kinds.Name) ∷ init_line init rest) → (slot value).height ≡ max 1 (init_height init)
         → x ≡ record { dots = None; value = value } → ParameterView p x rest
     by_init value name None e node read height same = record {
       name = name;

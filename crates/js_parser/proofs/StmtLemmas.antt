@@ -15,7 +15,7 @@ use Rattle.js_tree.specs.Folds.{StmtLayer}
 use Rattle.js_tree.specs.Lexing.{Place}
 use Rattle.js_tree.specs.Operators.{begins_plain, on_line}
 use Rattle.js_tree.specs.Pieces.{Piece, Tok, Must, Holds, first as first_of, kind}
-use Rattle.js_tree.specs.Spelling.{expr, function, slot, stmt, tallest_of}
+use Rattle.js_tree.specs.Spelling.{expr, function, slot, stmt, stmts_height, tallest_of}
 use Rattle.js_tree.specs.Spelling.Nodes.{Seen, unmarked, stands, all_further}
 use Rattle.js_tree.specs.Spelling.Patterns.{DECLARED}
 use Rattle.js_tree.specs.Spelling.Rows.{each_of, further_row}
@@ -27,12 +27,14 @@ use Rattle.js_tokens.proofs.PieceLemmas.{seen}
 use Rattle.js_tokens.specs.Ahead.{Blind, IsNextKind, IsNextLine, reads}
 use Rattle.js_tokens.specs.Pieces.{Reads, AllHold}
 use Rattle.js_tokens.specs.declared.goal.Goal.TheVariants as goal
-use Rattle.js_parser.proofs.BeginLemmas.{Front, begins_expr, blind_expr, expr_begins, expr_told, front_told, function_begins, holds_from, other_told, stops_before}
+use Rattle.js_parser.proofs.BeginLemmas.{Front, begins_expr, blind_expr, expr_begins, expr_told, front_told, function_begins, holds_from, no_more, other_told, stops_before}
+use Rattle.js_parser.proofs.ListLemmas.{AllOf}
 use Rattle.js_parser.proofs.TokenLemmas.{only_plain, told}
-use Rattle.js_parser.specs.Following.{LeadsToStmt, Stops, statement_of}
-use Rattle.js_parser.specs.Nodes.{BeforeSemicolon, expr_line, given_height, given_line, given_stands, slot_line, slots_line, stmt_line}
+use Rattle.js_parser.specs.Following.{LeadsToStmt, Stops, closes, statement_of}
+use Rattle.js_parser.specs.Nodes.{BeforeSemicolon, Closes, StmtAt, StmtsAt, expr_line, given_height, given_line, given_stands, slot_line, slots_line, stmt_line}
 use Rattle.js_parser.specs.declared.kinds.Statement.{Statement}
 use Rattle.js_parser.specs.declared.kinds.Statement.TheVariants as sorts
+use Rattle.js_parser.specs.declared.tall.Tall.{Tall}
 
 -- an expression as a statement
 pub record PlainView (p : Place) (x : Stmt) (rest : List Piece) : Type 0 where
@@ -305,3 +307,62 @@ given_made p nl line near x rest r = (holds_from on_line p _ (λ t n a. ap not (
 pub before_semicolon : (rest : List Piece) → BeforeSemicolon rest → Stops 0 rest
 before_semicolon [] ends = absurd ends
 before_semicolon (x ∷ xs) ends = subst (λ (y : Piece). Stops 0 (y ∷ xs)) (sym ends.1) (stops_before 0 0 kinds.Semicolon refl (λ nl. refl) (omega arith) ends.0 xs)
+
+-- STATEMENTS ONE AFTER ANOTHER
+
+-- a statement no taller than the room, with its height
+abbrev pub IsStmt : ℕ → Stmt → Type 0
+IsStmt room x = (stmt x).height ≤ room
+
+abbrev pub tall_stmt : Stmt → Tall Stmt
+tall_stmt x = record { node = x; height = (stmt x).height }
+
+pub stmt_at : (room : ℕ) (x : Stmt) → IsStmt room x → StmtAt room (tall_stmt x)
+stmt_at room x low = record { height = refl; fits = low }
+
+all_of : (room : ℕ) (xs : List Stmt) → stmts_height xs ≤ room → AllOf (IsStmt room) xs
+unfolding AllOf
+all_of room [] h = tt
+all_of room (x ∷ xs) h = (omega (arith, h), all_of room xs (omega (arith, h)))
+
+pub stmts_of : (room : ℕ) (x : Tall (List Stmt)) → StmtsAt room x → AllOf (IsStmt room) x.node
+stmts_of room x at = all_of room x.node (omega (arith, at.height, at.fits))
+
+of_all : (room : ℕ) (xs : List Stmt) → AllOf (IsStmt room) xs → stmts_height xs ≤ room
+unfolding AllOf
+of_all room [] a = omega arith
+of_all room (x ∷ xs) a = omega (arith, a.0, of_all room xs a.1)
+
+pub stmts_at : (room height : ℕ) (xs : List Stmt) → AllOf (IsStmt room) xs → height ≡ stmts_height xs → StmtsAt room (record { node = xs; height = height })
+stmts_at room height xs a is = record { height = is; fits = omega (arith, is, of_all room xs a) }
+
+-- where the next token doesn't close, statements don't end
+pub not_closed : (p : Place) (k : TokenKind) → IsNextKind p k → closes k ≡ false → (rest : List Piece) → Closes rest → Reads p rest → ⊥
+not_closed p k next other [] ends r =
+    let t = next.some (λ e. true≢false (sym (ap closes e) ∙ other)) in
+    no_more p t.1 t.0 r t.2
+not_closed p k next other (x ∷ xs) ends r =
+    let s = subst (λ (y : Piece). Reads p (y ∷ xs)) ends.1 r in
+    let same : k ≡ kinds.RightBrace = sym (told p s.0 ends.0 k next s.1 (only_plain kinds.RightBrace refl (kind ends.0) s.2)) ∙ is_same kinds.RightBrace (kind ends.0) s.2 in
+    true≢false (sym (ap closes same) ∙ other)
+
+is_nothing : Statement → Bool
+is_nothing sorts.Nothing = true
+is_nothing _ = false
+
+nothing_alone : (s : Statement) → is_nothing s ≡ true → s ≡ sorts.Nothing
+unfolding is_nothing
+nothing_alone sorts.Plain e = absurd (true≢false (sym e))
+nothing_alone sorts.Var e = absurd (true≢false (sym e))
+nothing_alone sorts.Return e = absurd (true≢false (sym e))
+nothing_alone sorts.Function e = absurd (true≢false (sym e))
+nothing_alone sorts.Nothing e = refl
+
+closes_check : TokenKind → Bool
+closes_check k = not (closes k && true) || is_nothing (statement_of k)
+
+-- where it closes no statement stands
+pub stmt_not_closed : (p : Place) (k : TokenKind) → IsNextKind p k → closes k ≡ true → (x : Stmt) (rest : List Piece) → Reads p (stmt_line x rest) → ⊥
+unfolding closes_check is_nothing
+stmt_not_closed p k next here x rest r =
+    stmt_view sorts.Nothing p x rest (k, next, nothing_alone (statement_of k) (implied (closes k) true _ (every closes_check refl k) here refl)) r

@@ -67,11 +67,10 @@ impl<
         if !is_named(&node) {
             return Err(refusal);
         }
+        let function = Boxed::new(self.alloc, node)?;
         Ok(Tall {
             height: height + 1,
-            node: Stmt::Fun {
-                function: Boxed::new(self.alloc, node)?,
-            },
+            node: Stmt::Fun { function },
         })
     }
 

@@ -7,7 +7,7 @@ use Rattle.js_parser.proofs.grammar.Grammar.further_slots.Given as goal
 
 abbrev pub invariant-slots : goal.invariant-slots
 invariant-slots g l = record {
-  progress : Progress further_slot_line (IsFurtherSlot (l.self.now.room - 1)) (Stops 0) l.fn.reader l.all l.reader;
+  progress : Progress further_slot_line (IsFurtherSlot (l.self.room - 1)) (Stops 0) l.fn.reader l.all l.reader;
   height : l.height ≡ further_tall l.all;
   shorter : length l.reader.left ≤ length l.fn.reader.left;
 }
