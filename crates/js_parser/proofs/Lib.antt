@@ -1,4 +1,5 @@
 pub mod BeginLemmas
+pub mod BoundaryLemmas
 pub mod BracketLemmas
 pub mod ExprLemmas
 pub mod FunctionLemmas
@@ -9,3 +10,4 @@ pub mod ReadLemmas
 pub mod SlotLemmas
 pub mod StmtLemmas
 pub mod TokenLemmas
+pub mod WholeLemmas

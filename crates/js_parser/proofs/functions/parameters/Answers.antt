@@ -1,10 +1,12 @@
 use Rattle.std.proofs.Common.{◌≡◌, ◌<◌, ◌≤◌, ◌+◌, ◌-◌, ℕ, max, refl, sym, ap, ◌∙◌, subst, arith, List, [], ◌∷◌, ◌++◌, Option, Some, None, is_some, false, true}
-use Rattle.js_tree.specs.Pieces.{Piece, Onto, one}
+use Rattle.js_tree.specs.Lexing.{Place}
+use Rattle.js_tree.specs.Pieces.{Piece, Onto}
 use Rattle.js_tree.specs.TokenKinds.{is}
 use Rattle.js_tree.specs.declared.lists.Bracket.{Bracket}
 use Rattle.js_tree.specs.declared.lists.Element.{Element}
 use Rattle.js_tree.specs.declared.lists.Listed.{Listed}
 use Rattle.js_tree.specs.declared.token.Token.{Token}
+use Rattle.js_tree.specs.declared.token_kind.TokenKind.{TokenKind}
 use Rattle.js_tree.specs.declared.token_kind.TokenKind.TheVariants as kinds
 use Rattle.js_tree.specs.declared.tree.Slot.{Slot}
 use Rattle.js_tokens.specs.Ahead.{IsNextKind}
@@ -28,8 +30,8 @@ returns-in_err-open c = record {
 }
 
 -- a further parameter stands where no `)` does
-goes : (m : _) (k : _) → IsNextKind m k → is kinds.RightParen k ≡ false → Goes parameter_line (IsParameter _) (λ (y : Element Slot) (ps : List Piece). Unit {0}) m
-goes m k next other = record { unclosed = λ close more r. other_told kinds.RightParen refl m k next other close more r; comma = λ y t rest. tt; close = λ y t rest. tt }
+goes : (room : ℕ) (m : Place) (k : TokenKind) → IsNextKind m k → is kinds.RightParen k ≡ false → Goes parameter_line (IsParameter room) (λ y ps. Unit {0}) m
+goes room m k next other = record { unclosed = λ close more r. other_told kinds.RightParen refl m k next other close more r; comma = λ y t rest. tt; close = λ y t rest. tt }
 
 pub returns-in_err-item : goal.returns-in_err-item
 returns-in_err-item c = record {
@@ -37,7 +39,7 @@ returns-in_err-item c = record {
     (λ x rest r at s.
         let t = both_not _ _ (sym c.goes_on.ensures ∙ c.parameters-test.true) in
         let g0 = c.in_ok-open.ensures.only x.node.«open» (behind_open x rest) r tt tt in
-        item_refused parameter_line (IsParameter _) (λ y ps. Unit {0}) _ _ _ _ _ t.0 c.parameters.invariant.within (goes _ _ c.kind.ensures t.1)
+        item_refused parameter_line (IsParameter _) (λ y ps. Unit {0}) _ _ _ _ _ t.0 c.parameters.invariant.within (goes _ _ _ c.kind.ensures t.1)
         (λ y more n good after. want _ _ _ (c.in_err-item.ensures.reads.only (tall_parameter y) more n (parameter_at _ y good) tt))
         x.node.front x.node.last x.node.close rest g0.1 (parameters_good _ x.node x.height at.each (at.height ∙ parameters_tall x.node) at.fits)) c.from_residual-in_err-item.ensures.1;
 }
@@ -48,7 +50,7 @@ returns-in_err-comma c = record {
     (λ x rest r at s.
         let t = both_not _ _ (sym c.goes_on.ensures ∙ c.parameters-test.true) in
         let g0 = c.in_ok-open.ensures.only x.node.«open» (behind_open x rest) r tt tt in
-        comma_refused parameter_line (IsParameter _) (λ y ps. Unit {0}) _ _ _ _ _ c.in_ok-item.field-0.node _ t.0 c.parameters.invariant.within (goes _ _ c.kind.ensures t.1)
+        comma_refused parameter_line (IsParameter _) (λ y ps. Unit {0}) _ _ _ _ _ c.in_ok-item.field-0.node _ t.0 c.parameters.invariant.within (goes _ _ _ c.kind.ensures t.1)
         (λ y more n good after. let a = c.in_ok-item.ensures.reads.only (tall_parameter y) more n (parameter_at _ y good) tt in (ap (λ (z : Tall (Element Slot)). z.node) a.0, a.1))
         (λ o more n after. want _ _ _ (c.in_err-comma.ensures.reads.only o more n tt after))
         x.node.front x.node.last x.node.close rest g0.1 (parameters_good _ x.node x.height at.each (at.height ∙ parameters_tall x.node) at.fits)) c.from_residual-in_err-comma.ensures.1;
@@ -59,7 +61,7 @@ parameters-preserved c =
     let t = both_not _ _ (sym c.goes_on.ensures ∙ c.parameters-test.true) in
     let w = c.in_ok-item.ensures.reads.found.1 in
     record {
-      within = within_more parameter_line (IsParameter _) (λ y ps. Unit {0}) _ _ _ _ _ _ c.in_ok-item.field-0.node c.in_ok-comma.comma _ _ t.0 c.parameters.invariant.within (goes _ _ c.kind.ensures t.1)
+      within = within_more parameter_line (IsParameter _) (λ y ps. Unit {0}) _ _ _ _ _ _ c.in_ok-item.field-0.node c.in_ok-comma.comma _ _ t.0 c.parameters.invariant.within (goes _ _ _ c.kind.ensures t.1)
           c.in_ok-item.ensures.reads.found.0 (w.fits, omega (arith, w.height, w.low)) c.in_ok-item.ensures.reads.moves
           (λ y more n good after. let a = c.in_ok-item.ensures.reads.only (tall_parameter y) more n (parameter_at _ y good) tt in (ap (λ (z : Tall (Element Slot)). z.node) a.0, a.1))
           c.in_ok-comma.ensures.reads.found.0 c.in_ok-comma.ensures.reads.moves (λ o more n after. c.in_ok-comma.ensures.reads.only o more n tt after) c.in_ok-put.ensures;
