@@ -1,5 +1,5 @@
 -- With which token a node begins, and what may not follow before a token of a kind.
-use Rattle.std.proofs.Common.{◌≡◌, ℕ, ◌<◌, ◌≤◌, ◌⊎◌, ⊎_elim, Bool, true, false, ◌||◌, not, List, [], ◌∷◌, length, take, drop, Option, Some, refl, sym, ap, ◌∙◌, subst, arith, true≢false}
+use Rattle.std.proofs.Common.{◌≡◌, ℕ, ◌<◌, ◌≤◌, ◌⊎◌, ⊎_elim, Bool, true, false, ◌||◌, not, List, [], ◌∷◌, length, take, drop, Option, Some, None, refl, sym, ap, ◌∙◌, subst, arith, true≢false}
 use Rattle.std.specs.List.{AllByRecursion, list_all}
 use Rattle.std.proofs.lemmas.Bool.{cases_order}
 use Rattle.std.proofs.lemmas.List.{length-drop}
@@ -21,9 +21,9 @@ use Rattle.js_tree.specs.Pieces.{Piece, Tok, Must, Ahead, Holds, first as first_
 use Rattle.js_tree.specs.Spelling.{expr, function, pattern}
 use Rattle.js_tree.specs.Spelling.Expressions.{expr_musts, expr_row}
 use Rattle.js_tree.specs.Spelling.Functions.{function_musts, function_row}
-use Rattle.js_tree.specs.Spelling.Nodes.{musts}
+use Rattle.js_tree.specs.Spelling.Nodes.{musts, pieces}
 use Rattle.js_tree.specs.Spelling.Patterns.{pattern_row}
-use Rattle.js_tree.specs.Spelling.Rows.{template_head}
+use Rattle.js_tree.specs.Spelling.Rows.{may_mark, template_head}
 use Rattle.js_tree.specs.TokenKinds.{is}
 use Rattle.js_tree.proofs.GatherLemmas.{along_parts}
 use Rattle.js_tree.proofs.KindLemmas.{is_itself, is_same, every}
@@ -35,6 +35,7 @@ use Rattle.js_tokens.specs.Pieces.{Reads, AllHold}
 use Rattle.js_tokens.specs.declared.goal.Goal.TheVariants as goal
 use Rattle.js_parser.proofs.TokenLemmas.{only_plain, told}
 use Rattle.js_parser.specs.Following.{strength, Stops, NoKind}
+use Rattle.js_parser.specs.Nodes.{NoMark}
 
 -- the pieces begin with a token of these kinds, which stands next
 pub record Front (test : TokenKind → Bool) (p : Place) (ps : List Piece) : Type 0 where
@@ -224,3 +225,25 @@ other_told asked plain p k next other t rest r = true≢false (sym r.2 ∙ ap (i
 -- no expression begins with the token that is told
 pub expr_told : (p : Place) (k : TokenKind) → IsNextKind p k → begins_expr k ≡ false → (x : Expr) (rest : List Piece) → Reads p ((expr x).line rest) → ⊥
 expr_told p k next other x rest r = true≢false (sym (front_told begins_expr blind_expr p _ k next (expr_begins x p rest r)) ∙ other)
+
+-- A TOKEN THAT MAY STAND
+
+-- none stands where another is told
+pub mark_none : (asked : TokenKind) → reads goal.Operator asked ≡ true → (p : Place) (k : TokenKind) → IsNextKind p k → is asked k ≡ false → (o : Option Token) (rest : List Piece) → Reads p (may_mark pieces asked o rest) → o ≡ None
+mark_none asked plain p k next other None rest r = refl
+mark_none asked plain p k next other (Some t) rest r = absurd (other_told asked plain p k next other t rest r)
+
+not_end : (asked : TokenKind) → is kinds.End asked ≡ false → is asked kinds.End ≡ false
+not_end asked some = by_test (is asked kinds.End) refl
+  where
+    by_test : (b : Bool) → is asked kinds.End ≡ b → b ≡ false
+    by_test false e = refl
+    by_test true e = absurd (true≢false (ap (is kinds.End) (is_same asked kinds.End e) ∙ some))
+
+-- it stands where it is told
+pub mark_some : (asked : TokenKind) → reads goal.Operator asked ≡ true → is kinds.End asked ≡ false → (p : Place) (k : TokenKind) → IsNextKind p k → is asked k ≡ true → (o : Option Token) (rest : List Piece)
+    → NoMark asked o rest → Reads p (may_mark pieces asked o rest) → (t : Token) × (o ≡ Some t) × Reads p (Tok t (is asked) ∷ rest)
+mark_some asked plain some p k next here None rest none r =
+    let t = next_of asked (not_end asked some) p k next here in
+    absurd (true≢false (sym (ap (is asked) t.3 ∙ is_itself asked) ∙ none refl p r t.0 t.1 t.2 (ap (reads goal.Operator) t.3 ∙ plain)))
+mark_some asked plain some p k next here (Some t) rest none r = (t, refl, r)
