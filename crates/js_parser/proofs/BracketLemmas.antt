@@ -172,12 +172,12 @@ module _ {X : Type 0} (item : X → Onto) (P : X → Type 0) (Stops : X → List
   unfolding AllOf
   within_more p m n k front (Some i) x comma front' last' h before goes found good passes only met past one puts = absurd (true≢false h)
   within_more p m n k front None x None front' last' h before goes found good passes only met past one puts =
-      subst (λ (xs : List (Listed X)). Within p xs last' k) (sym puts.0) (subst (λ (l : Option X). Within p front l k) (sym puts.1) record {
+      subst (λ (xs : List (Listed X)). Within p xs last' k) (sym puts.0) (subst (λ (l : Option X). Within p front l k) (sym puts.1) (record {
         found = λ rest r. before.found (item x rest) (found rest (met rest r));
         good = record { each = before.good.each; end = good };
         only = λ xs l close more r g. let a = before.only xs l close more r g in onward xs l close more a.0 a.1 a.2 a.3;
         passes = passes_on p m k before.passes (passes_on m n k passes past);
-      })
+      }))
     where
       onward : (xs : List (Listed X)) (l : Option X) (close : Token) (more : List Piece) (ys : List (Listed X)) → xs ≡ front ++ ys → Reads m (inside ys l (closing close more)) → Good ys l
           → (xs ≡ front) × (l ≡ Some x) × Reads k (closing close more)
@@ -191,13 +191,13 @@ module _ {X : Type 0} (item : X → Onto) (P : X → Type 0) (Stops : X → List
           let d = one (Some y.mark) (inside ys l (closing close more)) b.1 (a_comma y.mark (inside ys l (closing close more))) in
           absurd (none_some y.mark d.0)
   within_more p m n k front None x (Some mark) front' last' h before goes found good passes only met past one puts =
-      subst (λ (xs : List (Listed X)). Within p xs last' k) (sym puts.0) (subst (λ (l : Option X). Within p (front ++ listed ∷ []) l k) (sym puts.1) record {
+      subst (λ (xs : List (Listed X)). Within p xs last' k) (sym puts.0) (subst (λ (l : Option X). Within p (front ++ listed ∷ []) l k) (sym puts.1) (record {
         found = λ rest r. subst (λ (ps : List Piece). Reads p ps) (sym (each-push (listed_row pieces item) (λ (y : Listed X). P y.item) (λ ps. Unit {0}) (λ y ps. Unit {0}) front listed rest))
             (before.found (listed_row pieces item listed rest) (found (Tok mark (is kinds.Comma) ∷ rest) (met rest r)));
         good = record { each = good-push (listed_row pieces item) (λ (y : Listed X). P y.item) (λ ps. Unit {0}) (λ y ps. Unit {0}) front listed before.good.each good; end = tt };
         only = λ xs l close more r g. let a = before.only xs l close more r g in onward xs l close more a.0 a.1 a.2 a.3;
         passes = passes_on p m k before.passes (passes_on m n k passes past);
-      })
+      }))
     where
       listed : Listed X
       listed = record { item = x; mark = mark }

@@ -113,12 +113,12 @@ abbrev AreGood : ℕ → List (Listed (Element Slot)) → Option (Element Slot) 
 AreGood room = Good parameter_line (IsParameter room) (λ x rest. Unit {0})
 
 pub parameters_good : (room : ℕ) (b : Bracket Slot) (height : ℕ) → all_within fits b ≡ true → height ≡ parameters_height b → height ≤ room → AreGood room b.front b.last
+unfolding AllOf
 parameters_good room b height good is low =
     let s = both _ _ good in
     record { each = each b.front s.0 (omega (arith, is, low)); end = end b.last s.1 (omega (arith, is, low)) }
   where
     each : (xs : List (Listed (Element Slot))) → list_all (λ x. fits x.item) xs ≡ true → tallest_of (λ x. parameter_height x.item) xs ≤ room → AllOf (λ (x : Listed (Element Slot)). IsParameter room x.item) xs
-    unfolding AllOf
     each [] e h = tt
     each (x ∷ xs) e h = let s = both _ _ e in ((s.0, omega (arith, h)), each xs s.1 (omega (arith, h)))
 
@@ -127,13 +127,13 @@ parameters_good room b height good is low =
     end (Some x) e h = (e, h)
 
 pub good_parameters : (room : ℕ) (b : Bracket Slot) → AreGood room b.front b.last → (all_within fits b ≡ true) × (parameters_height b ≤ room)
+unfolding AllOf
 good_parameters room b good =
     let e = each b.front good.each in
     let l = end b.last good.end in
     (joined _ _ e.0 l.0, omega (arith, e.1, l.1))
   where
     each : (xs : List (Listed (Element Slot))) → AllOf (λ (x : Listed (Element Slot)). IsParameter room x.item) xs → (list_all (λ x. fits x.item) xs ≡ true) × (tallest_of (λ x. parameter_height x.item) xs ≤ room)
-    unfolding AllOf
     each [] a = (refl, omega arith)
     each (x ∷ xs) a = let m = each xs a.1 in (joined _ _ a.0.0 m.0, omega (arith, a.0.1, m.1))
 

@@ -47,10 +47,6 @@ both : (a b : Bool) → (a && b) ≡ true → (a ≡ true) × (b ≡ true)
 both true b e = (refl, e)
 both false b e = absurd (true≢false (sym e))
 
-given_stands : (o : Option (Init Expr)) → passes (λ (i : Init Seen). stands ASSIGN i.value) (map_maybe (map_init expr) o) ≡ init_stands o
-given_stands None = refl
-given_stands (Some i) = refl
-
 -- what is seen of a name and what it is given
 named : Token → Option (Init Expr) → Seen
 named name init = slot_step (record { target = pattern_step (Pattern-F.«Pattern::Name» name); init = map_maybe (map_init expr) init })

@@ -230,18 +230,16 @@ stmt_view s p x rest leads r =
 next_check : Bool → TokenKind → Bool
 next_check nl k = not (begins_expr k && is_plain (statement_of k)) || begins_plain k nl
 
+plain_holds : (nl : Bool) (k : TokenKind) → begins_expr k ≡ true → statement_of k ≡ sorts.Plain → begins_plain k nl ≡ true
+unfolding next_check is_plain
+plain_holds true k e f = implied (begins_expr k) (is_plain (statement_of k)) _ (every (next_check true) refl k) e (ap is_plain f)
+plain_holds false k e f = implied (begins_expr k) (is_plain (statement_of k)) _ (every (next_check false) refl k) e (ap is_plain f)
+
 -- where an expression stands that no other statement begins with, it may be a statement
 pub plain_next : (p : Place) (ps : List Piece) → LeadsToStmt sorts.Plain p → Front begins_expr p ps → AllHold begins_plain p
-unfolding next_check
-plain_next p ps leads f t n a = seen (λ j. begins_plain j t.nl_before) (blind_plain t.nl_before) p leads.0 leads.1 t n a ∙ holds t.nl_before
-  where
-    here : begins_expr leads.0 ≡ true
-    here = front_told begins_expr blind_expr p ps leads.0 leads.1 f
-
-    holds : (nl : Bool) → begins_plain leads.0 nl ≡ true
-    unfolding is_plain
-    holds true = implied (begins_expr leads.0) _ _ (every (next_check true) refl leads.0) here (ap is_plain leads.2)
-    holds false = implied (begins_expr leads.0) _ _ (every (next_check false) refl leads.0) here (ap is_plain leads.2)
+plain_next p ps leads f t n a =
+    seen (λ j. begins_plain j t.nl_before) (blind_plain t.nl_before) p leads.0 leads.1 t n a
+    ∙ plain_holds t.nl_before leads.0 (front_told begins_expr blind_expr p ps leads.0 leads.1 f) leads.2
 
 pub plain_made : (p : Place) (value : Expr) (semi : Token) (rest : List Piece) → stands 0 (expr value) ≡ true → AllHold begins_plain p
     → Reads p (expr_line value (Tok semi (is kinds.Semicolon) ∷ rest)) → Reads p (stmt_line (made.Plain value (Some semi)) rest)

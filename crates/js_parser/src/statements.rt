@@ -17,8 +17,7 @@ use std::alloc::Global;
 impl<
     E: Fn(Global, &mut TokenReader<'_>, u32, u8) -> Result<Value, TokenFault>,
     S: Fn(Global, &mut TokenReader<'_>, u32) -> Result<Tall<Items<Stmt>>, TokenFault>,
-> Grammar<E, S>
-{
+> Grammar<E, S> {
     /// Statements, up to a `}` or the end.
     pub fn statements(&self, reader: &mut TokenReader<'_>) -> Result<Tall<Items<Stmt>>, TokenFault>
         requires knot { Knot self.now.room (E.pre self.now.expr) (E.post self.now.expr) (S.pre self.now.stmts) (S.post self.now.stmts) }
@@ -116,10 +115,7 @@ impl<
     }
 
     // A further declaration with its comma.
-    fn further_slot(
-        &self,
-        reader: &mut TokenReader<'_>,
-    ) -> Result<Tall<Further<Slot>>, TokenFault>
+    fn further_slot(&self, reader: &mut TokenReader<'_>) -> Result<Tall<Further<Slot>>, TokenFault>
         requires knot { Knot self.now.room (E.pre self.now.expr) (E.post self.now.expr) (S.pre self.now.stmts) (S.post self.now.stmts) }
         requires some { 0 < self.now.room }
         ensures reads { ReadsFurtherSlot (self.now.room - 1) reader.old reader.new result }
@@ -202,10 +198,7 @@ impl<
     }
 
     // What a function gives, on the line of its word, where it gives anything.
-    fn given(
-        &self,
-        reader: &mut TokenReader<'_>,
-    ) -> Result<Tall<Option<Boxed<Expr>>>, TokenFault>
+    fn given(&self, reader: &mut TokenReader<'_>) -> Result<Tall<Option<Boxed<Expr>>>, TokenFault>
         requires knot { Knot self.now.room (E.pre self.now.expr) (E.post self.now.expr) (S.pre self.now.stmts) (S.post self.now.stmts) }
         requires some { 0 < self.now.room }
         ensures reads { ReadsGiven (self.now.room - 1) reader.old reader.new result }

@@ -84,11 +84,7 @@ fn construct_at(text: &str, at: usize) -> Option<Construct> {
 /// A text over 8,388,608 bytes is `TooLarge`, with its length. Where no tree spells the text, the answer is `Construct`
 /// or `NotInProfile` with the offset in bytes at which reading stopped. `steps` rises by the length of a text within the
 /// limit, whatever the answer, and by nothing otherwise.
-pub fn parse<L: Ledger>(
-    alloc: Global,
-    text: &str,
-    steps: &mut Steps<L>,
-) -> Result<Tree, ParseFault>
+pub fn parse<L: Ledger>(alloc: Global, text: &str, steps: &mut Steps<L>) -> Result<Tree, ParseFault>
     ensures found { IfOk result (λ tree. Spells text.now tree) }
     ensures only { (tree : Tree) → Spells text.now tree → IsTree result tree }
     ensures too_large { TellsTooLarge text.now result }

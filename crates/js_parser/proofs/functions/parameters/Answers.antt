@@ -26,7 +26,7 @@ behind_open x rest = inside parameter_line (λ y. Unit {0}) (λ y ps. Unit {0}) 
 pub returns-in_err-open : goal.returns-in_err-open
 returns-in_err-open c = record {
   reads = failed _ _ _ _ _ _ _ _ (passes_none _) c.in_err-open.ensures.moves
-    (λ x rest r at s. want _ _ _ (c.in_err-open.ensures.only x.node.«open» (behind_open x rest) r tt tt)) c.from_residual.ensures.1;
+      (λ x rest r at s. want _ _ _ (c.in_err-open.ensures.only x.node.«open» (behind_open x rest) r tt tt)) c.from_residual.ensures.1;
 }
 
 -- a further parameter stands where no `)` does
@@ -36,24 +36,24 @@ goes room m k next other = record { unclosed = λ close more r. other_told kinds
 pub returns-in_err-item : goal.returns-in_err-item
 returns-in_err-item c = record {
   reads = failed _ _ _ _ _ _ _ _ (passes_on _ _ _ c.in_ok-open.ensures.moves c.parameters.invariant.within.passes) c.in_err-item.ensures.reads.moves
-    (λ x rest r at s.
-        let t = both_not _ _ (sym c.goes_on.ensures ∙ c.parameters-test.true) in
-        let g0 = c.in_ok-open.ensures.only x.node.«open» (behind_open x rest) r tt tt in
-        item_refused parameter_line (IsParameter _) (λ y ps. Unit {0}) _ _ _ _ _ t.0 c.parameters.invariant.within (goes _ _ _ c.kind.ensures t.1)
-        (λ y more n good after. want _ _ _ (c.in_err-item.ensures.reads.only (tall_parameter y) more n (parameter_at _ y good) tt))
-        x.node.front x.node.last x.node.close rest g0.1 (parameters_good _ x.node x.height at.each (at.height ∙ parameters_tall x.node) at.fits)) c.from_residual-in_err-item.ensures.1;
+      (λ x rest r at s.
+      let t = both_not _ _ (sym c.goes_on.ensures ∙ c.parameters-test.true) in
+      let g0 = c.in_ok-open.ensures.only x.node.«open» (behind_open x rest) r tt tt in
+      item_refused parameter_line (IsParameter _) (λ y ps. Unit {0}) _ _ _ _ _ t.0 c.parameters.invariant.within (goes _ _ _ c.kind.ensures t.1)
+      (λ y more n good after. want _ _ _ (c.in_err-item.ensures.reads.only (tall_parameter y) more n (parameter_at _ y good) tt))
+      x.node.front x.node.last x.node.close rest g0.1 (parameters_good _ x.node x.height at.each (at.height ∙ parameters_tall x.node) at.fits)) c.from_residual-in_err-item.ensures.1;
 }
 
 pub returns-in_err-comma : goal.returns-in_err-comma
 returns-in_err-comma c = record {
   reads = failed _ _ _ _ _ _ _ _ (passes_on _ _ _ (passes_on _ _ _ c.in_ok-open.ensures.moves c.parameters.invariant.within.passes) c.in_ok-item.ensures.reads.moves) c.in_err-comma.ensures.reads.moves
-    (λ x rest r at s.
-        let t = both_not _ _ (sym c.goes_on.ensures ∙ c.parameters-test.true) in
-        let g0 = c.in_ok-open.ensures.only x.node.«open» (behind_open x rest) r tt tt in
-        comma_refused parameter_line (IsParameter _) (λ y ps. Unit {0}) _ _ _ _ _ c.in_ok-item.field-0.node _ t.0 c.parameters.invariant.within (goes _ _ _ c.kind.ensures t.1)
-        (λ y more n good after. let a = c.in_ok-item.ensures.reads.only (tall_parameter y) more n (parameter_at _ y good) tt in (ap (λ (z : Tall (Element Slot)). z.node) a.0, a.1))
-        (λ o more n after. want _ _ _ (c.in_err-comma.ensures.reads.only o more n tt after))
-        x.node.front x.node.last x.node.close rest g0.1 (parameters_good _ x.node x.height at.each (at.height ∙ parameters_tall x.node) at.fits)) c.from_residual-in_err-comma.ensures.1;
+      (λ x rest r at s.
+      let t = both_not _ _ (sym c.goes_on.ensures ∙ c.parameters-test.true) in
+      let g0 = c.in_ok-open.ensures.only x.node.«open» (behind_open x rest) r tt tt in
+      comma_refused parameter_line (IsParameter _) (λ y ps. Unit {0}) _ _ _ _ _ c.in_ok-item.field-0.node _ t.0 c.parameters.invariant.within (goes _ _ _ c.kind.ensures t.1)
+      (λ y more n good after. let a = c.in_ok-item.ensures.reads.only (tall_parameter y) more n (parameter_at _ y good) tt in (ap (λ (z : Tall (Element Slot)). z.node) a.0, a.1))
+      (λ o more n after. want _ _ _ (c.in_err-comma.ensures.reads.only o more n tt after))
+      x.node.front x.node.last x.node.close rest g0.1 (parameters_good _ x.node x.height at.each (at.height ∙ parameters_tall x.node) at.fits)) c.from_residual-in_err-comma.ensures.1;
 }
 
 pub parameters-preserved : goal.parameters-preserved
@@ -76,12 +76,12 @@ parameters-smaller c = omega (arith, c.in_ok-item.ensures.reads.shorter, c.in_ok
 pub returns-in_err-close : goal.returns-in_err-close
 returns-in_err-close c = record {
   reads = failed _ _ _ _ _ _ _ _ (passes_on _ _ _ c.in_ok-open.ensures.moves c.parameters.invariant.within.passes) c.in_err-close.ensures.moves
-    (λ x rest r at s.
-        let g0 = c.in_ok-open.ensures.only x.node.«open» (behind_open x rest) r tt tt in
-        let a = within_all parameter_line (IsParameter _) (λ y ps. Unit {0}) _ _ _ _ c.parameters.invariant.within
-            (λ none y more n good. no_parameter _ _ c.kind.ensures (not_both _ _ (sym c.goes_on.ensures ∙ c.parameters-test.false) none) y more n good.0)
-            x.node.front x.node.last x.node.close rest g0.1 (parameters_good _ x.node x.height at.each (at.height ∙ parameters_tall x.node) at.fits) in
-        want _ _ _ (c.in_err-close.ensures.only x.node.close rest a.2 tt tt)) c.from_residual-in_err-close.ensures.1;
+      (λ x rest r at s.
+      let g0 = c.in_ok-open.ensures.only x.node.«open» (behind_open x rest) r tt tt in
+      let a = within_all parameter_line (IsParameter _) (λ y ps. Unit {0}) _ _ _ _ c.parameters.invariant.within
+      (λ none y more n good. no_parameter _ _ c.kind.ensures (not_both _ _ (sym c.goes_on.ensures ∙ c.parameters-test.false) none) y more n good.0)
+      x.node.front x.node.last x.node.close rest g0.1 (parameters_good _ x.node x.height at.each (at.height ∙ parameters_tall x.node) at.fits) in
+      want _ _ _ (c.in_err-close.ensures.only x.node.close rest a.2 tt tt)) c.from_residual-in_err-close.ensures.1;
 }
 
 pub returns : goal.returns
@@ -90,15 +90,17 @@ returns c =
     let good = good_parameters _ b c.parameters.invariant.within.good in
     record {
       reads = record {
-        found = (λ rest r.
-            with_mark kinds.LeftParen _ _ _ _ c.in_ok-open.ensures.found.0 c.in_ok-open.ensures.found.1 (c.parameters.invariant.within.found (closing c.in_ok-close.close rest)
-            (with_mark kinds.RightParen _ _ _ rest c.in_ok-close.ensures.found.0 c.in_ok-close.ensures.found.1 r)),
-            record { each = good.0; height = c.parameters.invariant.height ∙ sym (parameters_tall b); fits = omega (arith, c.parameters.invariant.height, good.1) });
+        found = (
+          λ rest r.
+              with_mark kinds.LeftParen _ _ _ _ c.in_ok-open.ensures.found.0 c.in_ok-open.ensures.found.1 (c.parameters.invariant.within.found (closing c.in_ok-close.close rest)
+              (with_mark kinds.RightParen _ _ _ rest c.in_ok-close.ensures.found.0 c.in_ok-close.ensures.found.1 r)),
+          record { each = good.0; height = c.parameters.invariant.height ∙ sym (parameters_tall b); fits = omega (arith, c.parameters.invariant.height, good.1) },
+        );
         only = λ x rest r at s.
             let g0 = c.in_ok-open.ensures.only x.node.«open» (behind_open x rest) r tt tt in
             let a = within_all parameter_line (IsParameter _) (λ y ps. Unit {0}) _ _ _ _ c.parameters.invariant.within
-                (λ none y more n good. no_parameter _ _ c.kind.ensures (not_both _ _ (sym c.goes_on.ensures ∙ c.parameters-test.false) none) y more n good.0)
-                x.node.front x.node.last x.node.close rest g0.1 (parameters_good _ x.node x.height at.each (at.height ∙ parameters_tall x.node) at.fits) in
+            (λ none y more n good. no_parameter _ _ c.kind.ensures (not_both _ _ (sym c.goes_on.ensures ∙ c.parameters-test.false) none) y more n good.0)
+            x.node.front x.node.last x.node.close rest g0.1 (parameters_good _ x.node x.height at.each (at.height ∙ parameters_tall x.node) at.fits) in
             let g1 = c.in_ok-close.ensures.only x.node.close rest a.2 tt tt in
             let h : c.parameters.height ≡ x.height = c.parameters.invariant.height ∙ (λ i. inside_height parameter_height (a.0 i) (a.1 i)) ∙ sym (at.height ∙ parameters_tall x.node) in
             (λ i. record { node = record { «open» = g0.0 i; front = a.0 i; last = a.1 i; close = g1.0 i }; height = h i }, g1.1);

@@ -23,9 +23,9 @@ returns-then-not-are_same c = record {
 pub returns-in_err-token : goal.returns-in_err-token
 returns-in_err-token c = record {
   reads = failed_maybe _ _ _ _ _ _ _ _ (passes_none _) c.in_err-token.ensures.moves
-    (λ o rest r any s.
-        let v = mark_some c.args.kind c.requires.plain c.requires.some _ _ c.kind.ensures (sym c.are_same.ensures ∙ c.if-not-are_same.false) o rest s r in
-        want _ _ _ (c.in_err-token.ensures.only v.0 rest v.2 tt tt)) c.from_residual.ensures.1;
+      (λ o rest r any s.
+      let v = mark_some c.args.kind c.requires.plain c.requires.some _ _ c.kind.ensures (sym c.are_same.ensures ∙ c.if-not-are_same.false) o rest s r in
+      want _ _ _ (c.in_err-token.ensures.only v.0 rest v.2 tt tt)) c.from_residual.ensures.1;
 }
 
 pub returns : goal.returns

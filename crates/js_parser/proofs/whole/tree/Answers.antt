@@ -28,13 +28,13 @@ returns-then-is_at_end-clause-found c =
 pub returns-then-is_at_end-clause-only : goal.returns-then-is_at_end-clause-only
 returns-then-is_at_end-clause-only c tree s =
     let g0 : Gives {X = Tall (List Stmt)} (Ok c.in_ok-body.field-0) (body_of tree) (IsTrivia c.stmts.new.reader.at c.stmts.new.reader.left) =
-        only_body c.args.text.now _ c.stmts.new.reader tree _ (Ok c.in_ok-body.field-0) c.new-reader.ensures (omega arith) s c.in_ok-body.ensures.reads.only in
+    only_body c.args.text.now _ c.stmts.new.reader tree _ (Ok c.in_ok-body.field-0) c.new-reader.ensures (omega arith) s c.in_ok-body.ensures.reads.only in
     (λ i. record { body = (g0.0 i).node }, tt)
 
 pub returns-else-is_at_end-clause-only : goal.returns-else-is_at_end-clause-only
 returns-else-is_at_end-clause-only c tree s =
     let g0 : Gives {X = Tall (List Stmt)} (Ok c.in_ok-body.field-0) (body_of tree) (IsTrivia c.stmts.new.reader.at c.stmts.new.reader.left) =
-        only_body c.args.text.now _ c.stmts.new.reader tree _ (Ok c.in_ok-body.field-0) c.new-reader.ensures (omega arith) s c.in_ok-body.ensures.reads.only in
+    only_body c.args.text.now _ c.stmts.new.reader tree _ (Ok c.in_ok-body.field-0) c.new-reader.ensures (omega arith) s c.in_ok-body.ensures.reads.only in
     absurd (true≢false (sym (c.if-is_at_end.ensures.1 g0.1)))
 
 pub returns-else-is_at_end-clause-placed : goal.returns-else-is_at_end-clause-placed

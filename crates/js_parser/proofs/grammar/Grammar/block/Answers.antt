@@ -28,33 +28,35 @@ inside x rest = stmts x.node.body (ending x rest)
 pub returns-in_err-begin : goal.returns-in_err-begin
 returns-in_err-begin g c = record {
   reads = failed _ _ _ _ _ _ _ _ (passes_none _) c.in_err-begin.ensures.moves
-    (λ x rest r at s. want _ _ _ (c.in_err-begin.ensures.only x.node.begin (inside x rest) r tt tt)) c.from_residual.ensures.1;
+      (λ x rest r at s. want _ _ _ (c.in_err-begin.ensures.only x.node.begin (inside x rest) r tt tt)) c.from_residual.ensures.1;
 }
 
 pub returns-in_err-body : goal.returns-in_err-body
 returns-in_err-body g c = record {
   reads = failed _ _ _ _ _ _ _ _ c.in_ok-begin.ensures.moves c.in_err-body.ensures.reads.moves
-    (λ x rest r at s.
-        let g0 = c.in_ok-begin.ensures.only x.node.begin (inside x rest) r tt tt in
-        want _ _ _ (c.in_err-body.ensures.reads.only (body_of x) (ending x rest) g0.1 (body_at _ x at) (x.node.end, refl))) c.from_residual-in_err-body.ensures.1;
+      (λ x rest r at s.
+      let g0 = c.in_ok-begin.ensures.only x.node.begin (inside x rest) r tt tt in
+      want _ _ _ (c.in_err-body.ensures.reads.only (body_of x) (ending x rest) g0.1 (body_at _ x at) (x.node.end, refl))) c.from_residual-in_err-body.ensures.1;
 }
 
 pub returns-in_err-end : goal.returns-in_err-end
 returns-in_err-end g c = record {
   reads = failed _ _ _ _ _ _ _ _ (passes_on _ _ _ c.in_ok-begin.ensures.moves c.in_ok-body.ensures.reads.moves) c.in_err-end.ensures.moves
-    (λ x rest r at s.
-        let g0 = c.in_ok-begin.ensures.only x.node.begin (inside x rest) r tt tt in
-        let g1 = c.in_ok-body.ensures.reads.only (body_of x) (ending x rest) g0.1 (body_at _ x at) (x.node.end, refl) in
-        want _ _ _ (c.in_err-end.ensures.only x.node.end rest g1.1 tt tt)) c.from_residual-in_err-end.ensures.1;
+      (λ x rest r at s.
+      let g0 = c.in_ok-begin.ensures.only x.node.begin (inside x rest) r tt tt in
+      let g1 = c.in_ok-body.ensures.reads.only (body_of x) (ending x rest) g0.1 (body_at _ x at) (x.node.end, refl) in
+      want _ _ _ (c.in_err-end.ensures.only x.node.end rest g1.1 tt tt)) c.from_residual-in_err-end.ensures.1;
 }
 
 pub returns : goal.returns
 returns g c = record {
   reads = record {
-    found = (λ rest r.
-        with_mark kinds.LeftBrace _ _ _ _ c.in_ok-begin.ensures.found.0 c.in_ok-begin.ensures.found.1 (c.in_ok-body.ensures.reads.found.0 _
-        (with_mark kinds.RightBrace _ _ _ rest c.in_ok-end.ensures.found.0 c.in_ok-end.ensures.found.1 r)),
-        let w = c.in_ok-body.ensures.reads.found.1 in record { height = w.height; fits = w.fits });
+    found = (
+      λ rest r.
+          with_mark kinds.LeftBrace _ _ _ _ c.in_ok-begin.ensures.found.0 c.in_ok-begin.ensures.found.1 (c.in_ok-body.ensures.reads.found.0 _
+          (with_mark kinds.RightBrace _ _ _ rest c.in_ok-end.ensures.found.0 c.in_ok-end.ensures.found.1 r)),
+      let w = c.in_ok-body.ensures.reads.found.1 in record { height = w.height; fits = w.fits },
+    );
     only = λ x rest r at s.
         let g0 = c.in_ok-begin.ensures.only x.node.begin (inside x rest) r tt tt in
         let g1 = c.in_ok-body.ensures.reads.only (body_of x) (ending x rest) g0.1 (body_at _ x at) (x.node.end, refl) in

@@ -30,40 +30,42 @@ value_here room p x rest v at = record { stands = v.good; height = refl; fits = 
 pub returns-in_err-word : goal.returns-in_err-word
 returns-in_err-word g c = record {
   reads = failed _ _ _ _ _ _ _ _ (passes_none _) c.in_err-word.ensures.moves
-    (λ x rest r at s.
-        let v = stmt_view sorts.Return _ x.node rest c.requires.told r in
-        want _ _ _ (c.in_err-word.ensures.only v.word (behind_word v rest) v.read tt tt)) c.from_residual.ensures.1;
+      (λ x rest r at s.
+      let v = stmt_view sorts.Return _ x.node rest c.requires.told r in
+      want _ _ _ (c.in_err-word.ensures.only v.word (behind_word v rest) v.read tt tt)) c.from_residual.ensures.1;
 }
 
 pub returns-in_err-value : goal.returns-in_err-value
 returns-in_err-value g c = record {
   reads = failed _ _ _ _ _ _ _ _ c.in_ok-word.ensures.moves c.in_err-value.ensures.reads.moves
-    (λ x rest r at s.
-        let v = stmt_view sorts.Return _ x.node rest c.requires.told r in
-        let g0 = c.in_ok-word.ensures.only v.word (behind_word v rest) v.read tt tt in
-        want _ _ _ (c.in_err-value.ensures.reads.only (tall_given v.value) (ending v rest) g0.1 (value_here _ _ x rest v at) (v.semi, refl))) c.from_residual-in_err-value.ensures.1;
+      (λ x rest r at s.
+      let v = stmt_view sorts.Return _ x.node rest c.requires.told r in
+      let g0 = c.in_ok-word.ensures.only v.word (behind_word v rest) v.read tt tt in
+      want _ _ _ (c.in_err-value.ensures.reads.only (tall_given v.value) (ending v rest) g0.1 (value_here _ _ x rest v at) (v.semi, refl))) c.from_residual-in_err-value.ensures.1;
 }
 
 pub returns-in_err-semi : goal.returns-in_err-semi
 returns-in_err-semi g c = record {
   reads = failed _ _ _ _ _ _ _ _ (passes_on _ _ _ c.in_ok-word.ensures.moves c.in_ok-value.ensures.reads.moves) c.in_err-semi.ensures.moves
-    (λ x rest r at s.
-        let v = stmt_view sorts.Return _ x.node rest c.requires.told r in
-        let g0 = c.in_ok-word.ensures.only v.word (behind_word v rest) v.read tt tt in
-        let g1 = c.in_ok-value.ensures.reads.only (tall_given v.value) (ending v rest) g0.1 (value_here _ _ x rest v at) (v.semi, refl) in
-        want _ _ _ (c.in_err-semi.ensures.only v.semi rest g1.1 tt tt)) c.from_residual-in_err-semi.ensures.1;
+      (λ x rest r at s.
+      let v = stmt_view sorts.Return _ x.node rest c.requires.told r in
+      let g0 = c.in_ok-word.ensures.only v.word (behind_word v rest) v.read tt tt in
+      let g1 = c.in_ok-value.ensures.reads.only (tall_given v.value) (ending v rest) g0.1 (value_here _ _ x rest v at) (v.semi, refl) in
+      want _ _ _ (c.in_err-semi.ensures.only v.semi rest g1.1 tt tt)) c.from_residual-in_err-semi.ensures.1;
 }
 
 pub returns : goal.returns
 returns g c = record {
   reads = record {
-    found = (λ rest r.
-        return_made _ c.in_ok-word.word c.in_ok-value.value.node c.in_ok-semi.semi rest c.in_ok-value.ensures.reads.found.1.stands
-        (with_mark kinds.Return _ _ _ _ c.in_ok-word.ensures.found.0 c.in_ok-word.ensures.found.1 (c.in_ok-value.ensures.reads.found.0 _
-        (with_mark kinds.Semicolon _ _ _ rest c.in_ok-semi.ensures.found.0 c.in_ok-semi.ensures.found.1 r))),
-        let w = c.in_ok-value.ensures.reads.found.1 in
-        let h = return_tall c.in_ok-word.word c.in_ok-value.value.node c.in_ok-semi.semi in
-        record { height = omega (arith, h, w.height); fits = omega (arith, w.fits, c.requires.some) });
+    found = (
+      λ rest r.
+          return_made _ c.in_ok-word.word c.in_ok-value.value.node c.in_ok-semi.semi rest c.in_ok-value.ensures.reads.found.1.stands
+          (with_mark kinds.Return _ _ _ _ c.in_ok-word.ensures.found.0 c.in_ok-word.ensures.found.1 (c.in_ok-value.ensures.reads.found.0 _
+          (with_mark kinds.Semicolon _ _ _ rest c.in_ok-semi.ensures.found.0 c.in_ok-semi.ensures.found.1 r))),
+      let w = c.in_ok-value.ensures.reads.found.1 in
+          let h = return_tall c.in_ok-word.word c.in_ok-value.value.node c.in_ok-semi.semi in
+          record { height = omega (arith, h, w.height); fits = omega (arith, w.fits, c.requires.some) },
+    );
     only = λ x rest r at s.
         let v = stmt_view sorts.Return _ x.node rest c.requires.told r in
         let g0 = c.in_ok-word.ensures.only v.word (behind_word v rest) v.read tt tt in

@@ -24,12 +24,12 @@ slots-init g c = record {
 pub returns-in_err-node : goal.returns-in_err-node
 returns-in_err-node g c = record {
   reads = failed_maybe _ _ _ _ _ _ _ _ c.slots.invariant.progress.passes c.in_err-node.ensures.reads.moves
-    (λ x rest r at s. want _ _ _
-        (refused further_slot_line (IsFurtherSlot _) (Stops 0) (λ y. Stops ASSIGN) _ _ c.further_slot.new.reader _ _ c.slots.invariant.progress
-        (λ y more t h after. gives y _ _ (want _ _ _ (c.in_err-node.ensures.reads.only (tall_further y) more t (further_at _ y h) after)))
-        (λ more ends t. some_slot _ _ c.kind.ensures (sym c.are_same.ensures ∙ c.slots-test.true) more ends t)
-        (λ y ys more each ends. slot_stops ys more ends)
-        x.node rest r (slots_of _ x at) s x.node (Unit {0}))) c.from_residual.ensures.1;
+      (λ x rest r at s. want _ _ _
+      (refused further_slot_line (IsFurtherSlot _) (Stops 0) (λ y. Stops ASSIGN) _ _ c.further_slot.new.reader _ _ c.slots.invariant.progress
+      (λ y more t h after. gives y _ _ (want _ _ _ (c.in_err-node.ensures.reads.only (tall_further y) more t (further_at _ y h) after)))
+      (λ more ends t. some_slot _ _ c.kind.ensures (sym c.are_same.ensures ∙ c.slots-test.true) more ends t)
+      (λ y ys more each ends. slot_stops ys more ends)
+      x.node rest r (slots_of _ x at) s x.node (Unit {0}))) c.from_residual.ensures.1;
 }
 
 pub slots-preserved : goal.slots-preserved
@@ -56,7 +56,7 @@ returns g c = record {
     found = (c.slots.invariant.progress.found, slots_at _ _ _ c.slots.invariant.progress.good c.slots.invariant.height);
     only = λ x rest r at s.
         let a = finished further_slot_line (IsFurtherSlot _) (Stops 0) (λ y. Stops ASSIGN) _ _ _ c.slots.invariant.progress
-            (λ y more t. no_slot _ _ c.kind.ensures (sym c.are_same.ensures ∙ c.slots-test.false) y more t) x.node rest r (slots_of _ x at) s in
+        (λ y more t. no_slot _ _ c.kind.ensures (sym c.are_same.ensures ∙ c.slots-test.false) y more t) x.node rest r (slots_of _ x at) s in
         (λ i. record { node = a.0 i; height = (c.slots.invariant.height ∙ ap further_tall a.0 ∙ sym at.height) i }, a.1);
     moves = c.slots.invariant.progress.passes;
     shorter = c.slots.invariant.shorter;

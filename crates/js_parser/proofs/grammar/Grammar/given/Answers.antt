@@ -43,16 +43,18 @@ returns-then-nl_before g c = record {
 pub returns-in_err-value : goal.returns-in_err-value
 returns-in_err-value g c = record {
   reads = failed_maybe _ _ _ _ _ _ _ _ (passes_none _) c.in_err-value.ensures.reads.moves
-    (λ x rest r at s.
-        let v = given_view _ _ c.kind.ensures (sym c.are_same.ensures ∙ c.if-are_same.false) x.node rest s r in
-        want _ _ _ (c.in_err-value.ensures.reads.only (value_of v.0) rest v.2 (value_here _ x v.0 v.1 at) (ends v.0 rest s))) c.from_residual.ensures.1;
+      (λ x rest r at s.
+      let v = given_view _ _ c.kind.ensures (sym c.are_same.ensures ∙ c.if-are_same.false) x.node rest s r in
+      want _ _ _ (c.in_err-value.ensures.reads.only (value_of v.0) rest v.2 (value_here _ x v.0 v.1 at) (ends v.0 rest s))) c.from_residual.ensures.1;
 }
 
 pub returns : goal.returns
 returns g c = record {
   reads = record {
-    found = (λ rest r. given_made _ _ c.nl_before.ensures c.if-nl_before.false _ rest (c.in_ok-value.ensures.reads.found.0 rest r),
-        let w = c.in_ok-value.ensures.reads.found.1 in record { stands = w.stands; height = omega (arith, w.height); fits = w.fits });
+    found = (
+      λ rest r. given_made _ _ c.nl_before.ensures c.if-nl_before.false _ rest (c.in_ok-value.ensures.reads.found.0 rest r),
+      let w = c.in_ok-value.ensures.reads.found.1 in record { stands = w.stands; height = omega (arith, w.height); fits = w.fits },
+    );
     only = λ x rest r at s.
         let v = given_view _ _ c.kind.ensures (sym c.are_same.ensures ∙ c.if-are_same.false) x.node rest s r in
         let g0 = c.in_ok-value.ensures.reads.only (value_of v.0) rest v.2 (value_here _ x v.0 v.1 at) (ends v.0 rest s) in

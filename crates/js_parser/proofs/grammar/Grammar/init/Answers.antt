@@ -38,25 +38,27 @@ returns-then-not-are_same g c = record {
 pub returns-in_err-equals : goal.returns-in_err-equals
 returns-in_err-equals g c = record {
   reads = failed_maybe _ _ _ _ _ _ _ _ (passes_none _) c.in_err-equals.ensures.moves
-    (λ x rest r at s.
-        let v = init_view _ _ c.kind.ensures (sym c.are_same.ensures ∙ c.if-not-are_same.false) x.node rest s r in
-        want _ _ _ (c.in_err-equals.ensures.only v.0.equals (expr_line v.0.value rest) v.2 tt tt)) c.from_residual.ensures.1;
+      (λ x rest r at s.
+      let v = init_view _ _ c.kind.ensures (sym c.are_same.ensures ∙ c.if-not-are_same.false) x.node rest s r in
+      want _ _ _ (c.in_err-equals.ensures.only v.0.equals (expr_line v.0.value rest) v.2 tt tt)) c.from_residual.ensures.1;
 }
 
 pub returns-in_err-value : goal.returns-in_err-value
 returns-in_err-value g c = record {
   reads = failed_maybe _ _ _ _ _ _ _ _ c.in_ok-equals.ensures.moves c.in_err-value.ensures.reads.moves
-    (λ x rest r at s.
-        let v = init_view _ _ c.kind.ensures (sym c.are_same.ensures ∙ c.if-not-are_same.false) x.node rest s r in
-        let g0 = c.in_ok-equals.ensures.only v.0.equals (expr_line v.0.value rest) v.2 tt tt in
-        want _ _ _ (c.in_err-value.ensures.reads.only (value_of v.0.value) rest g0.1 (value_here _ x v.0 v.1 at) (ends v.0.value rest s))) c.from_residual-in_err-value.ensures.1;
+      (λ x rest r at s.
+      let v = init_view _ _ c.kind.ensures (sym c.are_same.ensures ∙ c.if-not-are_same.false) x.node rest s r in
+      let g0 = c.in_ok-equals.ensures.only v.0.equals (expr_line v.0.value rest) v.2 tt tt in
+      want _ _ _ (c.in_err-value.ensures.reads.only (value_of v.0.value) rest g0.1 (value_here _ x v.0 v.1 at) (ends v.0.value rest s))) c.from_residual-in_err-value.ensures.1;
 }
 
 pub returns : goal.returns
 returns g c = record {
   reads = record {
-    found = (λ rest r. with_mark kinds.Assign _ _ _ _ c.in_ok-equals.ensures.found.0 c.in_ok-equals.ensures.found.1 (c.in_ok-value.ensures.reads.found.0 rest r),
-        let w = c.in_ok-value.ensures.reads.found.1 in record { stands = w.stands; height = omega (arith, w.height); fits = w.fits });
+    found = (
+      λ rest r. with_mark kinds.Assign _ _ _ _ c.in_ok-equals.ensures.found.0 c.in_ok-equals.ensures.found.1 (c.in_ok-value.ensures.reads.found.0 rest r),
+      let w = c.in_ok-value.ensures.reads.found.1 in record { stands = w.stands; height = omega (arith, w.height); fits = w.fits },
+    );
     only = λ x rest r at s.
         let v = init_view _ _ c.kind.ensures (sym c.are_same.ensures ∙ c.if-not-are_same.false) x.node rest s r in
         let g0 = c.in_ok-equals.ensures.only v.0.equals (expr_line v.0.value rest) v.2 tt tt in

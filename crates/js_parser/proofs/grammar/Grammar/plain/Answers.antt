@@ -29,29 +29,31 @@ ends p x rest v = rests 0 (value_of v.value) (ending v rest) (omega arith) (stop
 pub returns-in_err-value : goal.returns-in_err-value
 returns-in_err-value g c = record {
   reads = failed _ _ _ _ _ _ _ _ (passes_none _) c.in_err-value.ensures.reads.moves
-    (λ x rest r at s.
-        let v = stmt_view sorts.Plain _ x.node rest c.requires.told r in
-        want _ _ _ (c.in_err-value.ensures.reads.only (value_of v.value) (ending v rest) v.read (value_here _ _ x rest v at) (ends _ x.node rest v))) c.from_residual.ensures.1;
+      (λ x rest r at s.
+      let v = stmt_view sorts.Plain _ x.node rest c.requires.told r in
+      want _ _ _ (c.in_err-value.ensures.reads.only (value_of v.value) (ending v rest) v.read (value_here _ _ x rest v at) (ends _ x.node rest v))) c.from_residual.ensures.1;
 }
 
 pub returns-in_err-semi : goal.returns-in_err-semi
 returns-in_err-semi g c = record {
   reads = failed _ _ _ _ _ _ _ _ c.in_ok-value.ensures.reads.moves c.in_err-semi.ensures.moves
-    (λ x rest r at s.
-        let v = stmt_view sorts.Plain _ x.node rest c.requires.told r in
-        let g0 = c.in_ok-value.ensures.reads.only (value_of v.value) (ending v rest) v.read (value_here _ _ x rest v at) (ends _ x.node rest v) in
-        want _ _ _ (c.in_err-semi.ensures.only v.semi rest g0.1 tt tt)) c.from_residual-in_err-semi.ensures.1;
+      (λ x rest r at s.
+      let v = stmt_view sorts.Plain _ x.node rest c.requires.told r in
+      let g0 = c.in_ok-value.ensures.reads.only (value_of v.value) (ending v rest) v.read (value_here _ _ x rest v at) (ends _ x.node rest v) in
+      want _ _ _ (c.in_err-semi.ensures.only v.semi rest g0.1 tt tt)) c.from_residual-in_err-semi.ensures.1;
 }
 
 pub returns : goal.returns
 returns g c = record {
   reads = record {
-    found = (λ rest r.
-        let more = c.in_ok-value.ensures.reads.found.0 _ (with_mark kinds.Semicolon _ _ _ rest c.in_ok-semi.ensures.found.0 c.in_ok-semi.ensures.found.1 r) in
-        plain_made _ _ _ rest c.in_ok-value.ensures.reads.found.1.stands (plain_next _ _ c.requires.told (expr_begins _ _ _ more)) more,
-        let w = c.in_ok-value.ensures.reads.found.1 in
-        let h = plain_tall c.in_ok-value.value.node c.in_ok-semi.semi in
-        record { height = omega (arith, h, w.height); fits = omega (arith, w.fits, c.requires.some) });
+    found = (
+      λ rest r.
+          let more = c.in_ok-value.ensures.reads.found.0 _ (with_mark kinds.Semicolon _ _ _ rest c.in_ok-semi.ensures.found.0 c.in_ok-semi.ensures.found.1 r) in
+          plain_made _ _ _ rest c.in_ok-value.ensures.reads.found.1.stands (plain_next _ _ c.requires.told (expr_begins _ _ _ more)) more,
+      let w = c.in_ok-value.ensures.reads.found.1 in
+          let h = plain_tall c.in_ok-value.value.node c.in_ok-semi.semi in
+          record { height = omega (arith, h, w.height); fits = omega (arith, w.fits, c.requires.some) },
+    );
     only = λ x rest r at s.
         let v = stmt_view sorts.Plain _ x.node rest c.requires.told r in
         let g0 = c.in_ok-value.ensures.reads.only (value_of v.value) (ending v rest) v.read (value_here _ _ x rest v at) (ends _ x.node rest v) in

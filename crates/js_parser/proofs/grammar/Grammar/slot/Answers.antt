@@ -22,37 +22,39 @@ init_at room p x rest v at = record { stands = v.good; height = refl; fits = ome
 pub returns-then-self-eq1 : goal.returns-then-self-eq1
 returns-then-self-eq1 g c = record {
   reads = refused_here _ _ _ _ _ _ c.refusal.ensures
-    (λ x rest r at s. let v = slot_view _ x.node rest at.stands r in omega (arith, v.height, at.height, at.fits, c.if-self-eq1.true));
+      (λ x rest r at s. let v = slot_view _ x.node rest at.stands r in omega (arith, v.height, at.height, at.fits, c.if-self-eq1.true));
 }
 
 pub returns-in_err-name : goal.returns-in_err-name
 returns-in_err-name g c = record {
   reads = failed _ _ _ _ _ _ _ _ (passes_none _) c.in_err-name.ensures.moves
-    (λ x rest r at s.
-        let v = slot_view _ x.node rest at.stands r in
-        want _ _ _ (c.in_err-name.ensures.only v.name (init_line v.init rest) v.read tt tt)) c.from_residual.ensures.1;
+      (λ x rest r at s.
+      let v = slot_view _ x.node rest at.stands r in
+      want _ _ _ (c.in_err-name.ensures.only v.name (init_line v.init rest) v.read tt tt)) c.from_residual.ensures.1;
 }
 
 pub returns-in_err-init : goal.returns-in_err-init
 returns-in_err-init g c = record {
   reads = failed _ _ _ _ _ _ _ _ c.in_ok-name.ensures.moves c.in_err-init.ensures.reads.moves
-    (λ x rest r at s.
-        let v = slot_view _ x.node rest at.stands r in
-        let g0 = c.in_ok-name.ensures.only v.name (init_line v.init rest) v.read tt tt in
-        want _ _ _ (c.in_err-init.ensures.reads.only (tall_init v.init) rest g0.1 (init_at _ _ x rest v at) s)) c.from_residual-in_err-init.ensures.1;
+      (λ x rest r at s.
+      let v = slot_view _ x.node rest at.stands r in
+      let g0 = c.in_ok-name.ensures.only v.name (init_line v.init rest) v.read tt tt in
+      want _ _ _ (c.in_err-init.ensures.reads.only (tall_init v.init) rest g0.1 (init_at _ _ x rest v at) s)) c.from_residual-in_err-init.ensures.1;
 }
 
 pub returns : goal.returns
 returns g c = record {
   reads = record {
-    found = (λ rest r. slot_made _ _ _ rest (with_mark kinds.Name _ _ _ _ c.in_ok-name.ensures.found.0 c.in_ok-name.ensures.found.1 (c.in_ok-init.ensures.reads.found.0 rest r)),
-        let w = c.in_ok-init.ensures.reads.found.1 in
-        let h = slot_tall c.in_ok-name.name c.in_ok-init.init.node in
-        record {
-          stands = slot_stands _ _ w.stands;
-          height = omega (arith, h, w.height, c.higher.ensures);
-          fits = omega (arith, w.fits, c.higher.ensures, c.requires.some, c.if-self-eq1.false);
-        });
+    found = (
+      λ rest r. slot_made _ _ _ rest (with_mark kinds.Name _ _ _ _ c.in_ok-name.ensures.found.0 c.in_ok-name.ensures.found.1 (c.in_ok-init.ensures.reads.found.0 rest r)),
+      let w = c.in_ok-init.ensures.reads.found.1 in
+          let h = slot_tall c.in_ok-name.name c.in_ok-init.init.node in
+          record {
+            stands = slot_stands _ _ w.stands;
+            height = omega (arith, h, w.height, c.higher.ensures);
+            fits = omega (arith, w.fits, c.higher.ensures, c.requires.some, c.if-self-eq1.false);
+          },
+    );
     only = λ x rest r at s.
         let v = slot_view _ x.node rest at.stands r in
         let g0 = c.in_ok-name.ensures.only v.name (init_line v.init rest) v.read tt tt in

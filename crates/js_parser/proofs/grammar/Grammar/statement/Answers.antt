@@ -7,5 +7,5 @@ use Rattle.js_parser.proofs.grammar.Grammar.statement.Goals as goal
 pub returns-in-Nothing : goal.returns-in-Nothing
 returns-in-Nothing g c = record {
   reads = refused_here _ _ _ _ _ _ c.refusal.ensures
-    (λ x rest r at s. stmt_view sorts.Nothing _ x.node rest (_, c.kind.ensures, sym c.statement_of.ensures ∙ c.in-Nothing.is) r);
+      (λ x rest r at s. stmt_view sorts.Nothing _ x.node rest (_, c.kind.ensures, sym c.statement_of.ensures ∙ c.in-Nothing.is) r);
 }

@@ -30,12 +30,12 @@ returns-then-self-eq0 g c = record {
 pub returns-in_err-node : goal.returns-in_err-node
 returns-in_err-node g c = record {
   reads = failed_maybe _ _ _ _ _ _ _ _ c.statements.invariant.progress.passes c.in_err-node.ensures.reads.moves
-    (λ x rest r at s. want _ _ _
-        (refused stmt_line (IsStmt _) Closes (Anywhere Stmt) _ _ c.statement.new.reader _ _ c.statements.invariant.progress
-        (λ y more t h after. gives y _ _ (want _ _ _ (c.in_err-node.ensures.reads.only (tall_stmt y) more t (stmt_at _ y h) tt)))
-        (λ more ends t. not_closed _ _ c.kind.ensures (sym c.closes.ensures ∙ c.statements-test.true) more ends t)
-        (λ y ys more each ends. tt)
-        x.node rest r (stmts_of _ x at) s x.node (Unit {0}))) c.from_residual.ensures.1;
+      (λ x rest r at s. want _ _ _
+      (refused stmt_line (IsStmt _) Closes (Anywhere Stmt) _ _ c.statement.new.reader _ _ c.statements.invariant.progress
+      (λ y more t h after. gives y _ _ (want _ _ _ (c.in_err-node.ensures.reads.only (tall_stmt y) more t (stmt_at _ y h) tt)))
+      (λ more ends t. not_closed _ _ c.kind.ensures (sym c.closes.ensures ∙ c.statements-test.true) more ends t)
+      (λ y ys more each ends. tt)
+      x.node rest r (stmts_of _ x at) s x.node (Unit {0}))) c.from_residual.ensures.1;
 }
 
 pub statements-preserved : goal.statements-preserved
@@ -60,7 +60,7 @@ returns g c = record {
     found = (c.statements.invariant.progress.found, stmts_at _ _ _ c.statements.invariant.progress.good c.statements.invariant.tallest);
     only = λ x rest r at s.
         let a = finished stmt_line (IsStmt _) Closes (Anywhere Stmt) _ _ _ c.statements.invariant.progress
-            (λ y more t. stmt_not_closed _ _ c.kind.ensures (sym c.closes.ensures ∙ c.statements-test.false) y more t) x.node rest r (stmts_of _ x at) s in
+        (λ y more t. stmt_not_closed _ _ c.kind.ensures (sym c.closes.ensures ∙ c.statements-test.false) y more t) x.node rest r (stmts_of _ x at) s in
         (λ i. record { node = a.0 i; height = (c.statements.invariant.tallest ∙ ap stmts_height a.0 ∙ sym at.height) i }, a.1);
     moves = c.statements.invariant.progress.passes;
     shorter = c.statements.invariant.shorter;

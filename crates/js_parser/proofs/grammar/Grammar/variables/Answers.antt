@@ -46,52 +46,54 @@ others_at room p x rest v at = record { each = v.each; height = refl; fits = ome
 pub returns-in_err-word : goal.returns-in_err-word
 returns-in_err-word g c = record {
   reads = failed _ _ _ _ _ _ _ _ (passes_none _) c.in_err-word.ensures.moves
-    (λ x rest r at s.
-        let v = stmt_view sorts.Var _ x.node rest c.requires.told r in
-        want _ _ _ (c.in_err-word.ensures.only v.word (behind_word v rest) v.read tt tt)) c.from_residual.ensures.1;
+      (λ x rest r at s.
+      let v = stmt_view sorts.Var _ x.node rest c.requires.told r in
+      want _ _ _ (c.in_err-word.ensures.only v.word (behind_word v rest) v.read tt tt)) c.from_residual.ensures.1;
 }
 
 pub returns-in_err-first : goal.returns-in_err-first
 returns-in_err-first g c = record {
   reads = failed _ _ _ _ _ _ _ _ c.in_ok-word.ensures.moves c.in_err-first.ensures.reads.moves
-    (λ x rest r at s.
-        let v = stmt_view sorts.Var _ x.node rest c.requires.told r in
-        let g0 = c.in_ok-word.ensures.only v.word (behind_word v rest) v.read tt tt in
-        want _ _ _ (c.in_err-first.ensures.reads.only (tall_slot v.first) (behind_first v rest) g0.1 (first_at _ _ x rest v at) (first_ends _ x.node rest v))) c.from_residual-in_err-first.ensures.1;
+      (λ x rest r at s.
+      let v = stmt_view sorts.Var _ x.node rest c.requires.told r in
+      let g0 = c.in_ok-word.ensures.only v.word (behind_word v rest) v.read tt tt in
+      want _ _ _ (c.in_err-first.ensures.reads.only (tall_slot v.first) (behind_first v rest) g0.1 (first_at _ _ x rest v at) (first_ends _ x.node rest v))) c.from_residual-in_err-first.ensures.1;
 }
 
 pub returns-in_err-others : goal.returns-in_err-others
 returns-in_err-others g c = record {
   reads = failed _ _ _ _ _ _ _ _ (passes_on _ _ _ c.in_ok-word.ensures.moves c.in_ok-first.ensures.reads.moves) c.in_err-others.ensures.reads.moves
-    (λ x rest r at s.
-        let v = stmt_view sorts.Var _ x.node rest c.requires.told r in
-        let g0 = c.in_ok-word.ensures.only v.word (behind_word v rest) v.read tt tt in
-        let g1 = c.in_ok-first.ensures.reads.only (tall_slot v.first) (behind_first v rest) g0.1 (first_at _ _ x rest v at) (first_ends _ x.node rest v) in
-        want _ _ _ (c.in_err-others.ensures.reads.only (tall_slots v.others) (ending v rest) g1.1 (others_at _ _ x rest v at) (ends _ x.node rest v))) c.from_residual-in_err-others.ensures.1;
+      (λ x rest r at s.
+      let v = stmt_view sorts.Var _ x.node rest c.requires.told r in
+      let g0 = c.in_ok-word.ensures.only v.word (behind_word v rest) v.read tt tt in
+      let g1 = c.in_ok-first.ensures.reads.only (tall_slot v.first) (behind_first v rest) g0.1 (first_at _ _ x rest v at) (first_ends _ x.node rest v) in
+      want _ _ _ (c.in_err-others.ensures.reads.only (tall_slots v.others) (ending v rest) g1.1 (others_at _ _ x rest v at) (ends _ x.node rest v))) c.from_residual-in_err-others.ensures.1;
 }
 
 pub returns-in_err-semi : goal.returns-in_err-semi
 returns-in_err-semi g c = record {
   reads = failed _ _ _ _ _ _ _ _ (passes_on _ _ _ (passes_on _ _ _ c.in_ok-word.ensures.moves c.in_ok-first.ensures.reads.moves) c.in_ok-others.ensures.reads.moves) c.in_err-semi.ensures.moves
-    (λ x rest r at s.
-        let v = stmt_view sorts.Var _ x.node rest c.requires.told r in
-        let g0 = c.in_ok-word.ensures.only v.word (behind_word v rest) v.read tt tt in
-        let g1 = c.in_ok-first.ensures.reads.only (tall_slot v.first) (behind_first v rest) g0.1 (first_at _ _ x rest v at) (first_ends _ x.node rest v) in
-        let g2 = c.in_ok-others.ensures.reads.only (tall_slots v.others) (ending v rest) g1.1 (others_at _ _ x rest v at) (ends _ x.node rest v) in
-        want _ _ _ (c.in_err-semi.ensures.only v.semi rest g2.1 tt tt)) c.from_residual-in_err-semi.ensures.1;
+      (λ x rest r at s.
+      let v = stmt_view sorts.Var _ x.node rest c.requires.told r in
+      let g0 = c.in_ok-word.ensures.only v.word (behind_word v rest) v.read tt tt in
+      let g1 = c.in_ok-first.ensures.reads.only (tall_slot v.first) (behind_first v rest) g0.1 (first_at _ _ x rest v at) (first_ends _ x.node rest v) in
+      let g2 = c.in_ok-others.ensures.reads.only (tall_slots v.others) (ending v rest) g1.1 (others_at _ _ x rest v at) (ends _ x.node rest v) in
+      want _ _ _ (c.in_err-semi.ensures.only v.semi rest g2.1 tt tt)) c.from_residual-in_err-semi.ensures.1;
 }
 
 pub returns : goal.returns
 returns g c = record {
   reads = record {
-    found = (λ rest r.
-        vars_made _ c.in_ok-word.word c.in_ok-first.first.node c.in_ok-others.others.node c.in_ok-semi.semi rest c.in_ok-first.ensures.reads.found.1.stands c.in_ok-others.ensures.reads.found.1.each
-        (with_mark kinds.Var _ _ _ _ c.in_ok-word.ensures.found.0 c.in_ok-word.ensures.found.1 (c.in_ok-first.ensures.reads.found.0 _ (c.in_ok-others.ensures.reads.found.0 _
-        (with_mark kinds.Semicolon _ _ _ rest c.in_ok-semi.ensures.found.0 c.in_ok-semi.ensures.found.1 r)))),
-        let w = c.in_ok-first.ensures.reads.found.1 in
-        let o = c.in_ok-others.ensures.reads.found.1 in
-        let h = vars_tall c.in_ok-word.word c.in_ok-first.first.node c.in_ok-others.others.node c.in_ok-semi.semi in
-        record { height = omega (arith, h, w.height, o.height, c.higher.ensures); fits = omega (arith, w.fits, o.fits, c.higher.ensures, c.requires.some) });
+    found = (
+      λ rest r.
+          vars_made _ c.in_ok-word.word c.in_ok-first.first.node c.in_ok-others.others.node c.in_ok-semi.semi rest c.in_ok-first.ensures.reads.found.1.stands c.in_ok-others.ensures.reads.found.1.each
+          (with_mark kinds.Var _ _ _ _ c.in_ok-word.ensures.found.0 c.in_ok-word.ensures.found.1 (c.in_ok-first.ensures.reads.found.0 _ (c.in_ok-others.ensures.reads.found.0 _
+          (with_mark kinds.Semicolon _ _ _ rest c.in_ok-semi.ensures.found.0 c.in_ok-semi.ensures.found.1 r)))),
+      let w = c.in_ok-first.ensures.reads.found.1 in
+          let o = c.in_ok-others.ensures.reads.found.1 in
+          let h = vars_tall c.in_ok-word.word c.in_ok-first.first.node c.in_ok-others.others.node c.in_ok-semi.semi in
+          record { height = omega (arith, h, w.height, o.height, c.higher.ensures); fits = omega (arith, w.fits, o.fits, c.higher.ensures, c.requires.some) },
+    );
     only = λ x rest r at s.
         let v = stmt_view sorts.Var _ x.node rest c.requires.told r in
         let g0 = c.in_ok-word.ensures.only v.word (behind_word v rest) v.read tt tt in
@@ -102,7 +104,7 @@ returns g c = record {
         let b : c.in_ok-others.others.height ≡ further_tall v.others = ap (λ (t : Tall (List (Further Slot))). t.height) g2.0 in
         let h : c.higher.result + 1 ≡ x.height = omega (arith, a, b, v.height, at.height, c.higher.ensures) in
         let n : made.Vars c.in_ok-word.word c.in_ok-first.first.node c.in_ok-others.others.node (Some c.in_ok-semi.semi) ≡ x.node =
-            (λ i. made.Vars (g0.0 i) (g1.0 i).node (g2.0 i).node (Some (g3.0 i))) ∙ sym v.node in
+        (λ i. made.Vars (g0.0 i) (g1.0 i).node (g2.0 i).node (Some (g3.0 i))) ∙ sym v.node in
         (λ i. record { node = n i; height = h i }, g3.1);
     moves = passes_on _ _ _ (passes_on _ _ _ (passes_on _ _ _ c.in_ok-word.ensures.moves c.in_ok-first.ensures.reads.moves) c.in_ok-others.ensures.reads.moves) c.in_ok-semi.ensures.moves;
     shorter = omega (arith, c.in_ok-word.ensures.shorter, c.in_ok-first.ensures.reads.shorter, c.in_ok-others.ensures.reads.shorter, c.in_ok-semi.ensures.shorter);
