@@ -1,4 +1,8 @@
+pub mod BeginLemmas
+pub mod BoundaryLemmas
+pub mod BracketLemmas
 pub mod ExprLemmas
+pub mod FunctionLemmas
 pub mod HeadLemmas
 pub mod ListLemmas
 pub mod ListedLemmas
@@ -7,5 +11,8 @@ pub mod OperandLemmas
 pub mod ParenLemmas
 pub mod PlaceLemmas
 pub mod ReadLemmas
+pub mod SlotLemmas
+pub mod StmtLemmas
 pub mod TailLemmas
 pub mod TokenLemmas
+pub mod WholeLemmas

@@ -27,11 +27,11 @@ pub record Progress {X : Type 0} (line : X → Onto) (P : X → Type 0) (Closes 
   pub passes : Passes p m
 
 module _ {X : Type 0} (line : X → Onto) (P : X → Type 0) (Closes : List Piece → Type 0) (Stops : X → List Piece → Type 0) where
-  each-push : (xs : List X) (x : X) (rest : List Piece) → each_of line (xs ++ x ∷ []) rest ≡ each_of line xs (line x rest)
+  pub each-push : (xs : List X) (x : X) (rest : List Piece) → each_of line (xs ++ x ∷ []) rest ≡ each_of line xs (line x rest)
   each-push [] x rest = refl
   each-push (y ∷ ys) x rest = ap (line y) (each-push ys x rest)
 
-  good-push : (xs : List X) (x : X) → AllOf P xs → P x → AllOf P (xs ++ x ∷ [])
+  pub good-push : (xs : List X) (x : X) → AllOf P xs → P x → AllOf P (xs ++ x ∷ [])
   unfolding AllOf
   good-push [] x a g = (g, tt)
   good-push (y ∷ ys) x a g = (a.0, good-push ys x a.1 g)

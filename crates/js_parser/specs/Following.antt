@@ -90,6 +90,12 @@ statement_of kind.RightBrace = statement.Nothing
 statement_of kind.End = statement.Nothing
 statement_of _ = statement.Plain
 
+-- no statement can follow where the token stands next
+abbrev pub closes : TokenKind → Bool
+closes kind.RightBrace = true
+closes kind.End = true
+closes _ = false
+
 -- a primary of the sort, a statement of the sort would begin at p
 abbrev pub LeadsTo : Primary → Place → Type 0
 LeadsTo sort p = (k : TokenKind) × IsNextKind p k × (primary_of k ≡ sort)

@@ -23,14 +23,14 @@ use Rattle.js_tree.specs.declared.tree.Function.{Function}
 use Rattle.js_tree.specs.declared.tree.Slot.{Slot}
 use Rattle.js_tree.specs.declared.tree.Stmt.{Stmt}
 use Rattle.js_tree.specs.Lexing.{Place}
-use Rattle.js_tree.specs.Pieces.{Piece, Tok, Onto}
+use Rattle.js_tree.specs.Pieces.{Piece, Tok, Ahead, Onto}
 use Rattle.js_tree.specs.Spelling.{expr, function, slot, stmt, stmts, stmts_height, tallest_of}
 use Rattle.js_tree.specs.Spelling.Functions.{parameter_fits}
-use Rattle.js_tree.specs.Operators.{is_assignment}
+use Rattle.js_tree.specs.Operators.{is_assignment, on_line}
 use Rattle.js_tree.specs.Spelling.Chains.{is_call}
 use Rattle.js_tree.specs.Spelling.Patterns.{DECLARED}
 use Rattle.js_tree.specs.Spelling.Nodes.{ASSIGN, BINARY, POWER, UNARY, NEW, pieces, unmarked, stands, is_empty, all_within, passes}
-use Rattle.js_tree.specs.Spelling.Rows.{mark, each_of, maybe, arm_row, bracket_row, element_row, further_row, template_parts, template_row, tail_row}
+use Rattle.js_tree.specs.Spelling.Rows.{mark, each_of, maybe, init_row, arm_row, bracket_row, element_row, further_row, template_parts, template_row, tail_row}
 use Rattle.js_tree.specs.TokenKinds.{is}
 use Rattle.js_tokens.specs.Pieces.{Reads, Read, OnlyRead, Gives, Moves, Refuses, Anywhere}
 use Rattle.js_tokens.specs.declared.fault.TokenFault.{TokenFault}
@@ -87,6 +87,10 @@ pub record ReadsMaybe {X : Type 0} (line : X → Onto) (P : X → Type 0) (S : X
   pub only : OnlyRead line P S p m result
   pub moves : Moves p m result
   pub shorter : IfOk result (λ x. length m.left ≤ length p.left)
+
+-- no such token follows where there is none
+abbrev pub NoMark : TokenKind → Option Token → List Piece → Type 0
+NoMark k o rest = is_some o ≡ false → NoKind (is k) rest
 
 -- VALUES
 
@@ -308,6 +312,24 @@ ReadsBlock room = ReadsAs (λ x. block_line x.node) (BlockAt room) (Anywhere (Ta
 abbrev pub ReadsFunction : ℕ → Place → Place → Result (Tall Function) TokenFault → Type 0
 ReadsFunction room = ReadsAs (λ x. (function x.node).line) (FunctionAt room) (Anywhere (Tall Function))
 
+-- what a declared name is given, where it is given anything
+abbrev pub init_line : Option (Init Expr) → Onto
+init_line = maybe (init_row pieces expr_line)
+
+abbrev pub init_stands : Option (Init Expr) → Bool
+init_stands = passes (λ i. stands ASSIGN (expr i.value))
+
+abbrev pub init_height : Option (Init Expr) → ℕ
+init_height o = maybe (λ (i : Init Expr) h. max (expr i.value).height h) o 0
+
+pub record InitAt (room : ℕ) (x : Tall (Option (Init Expr))) : Type 0 where
+  pub stands : init_stands x.node ≡ true
+  pub height : x.height ≡ init_height x.node
+  pub fits : x.height ≤ room
+
+abbrev pub ReadsInit : ℕ → Place → Place → Result (Tall (Option (Init Expr))) TokenFault → Type 0
+ReadsInit room = ReadsMaybe (λ x. init_line x.node) (InitAt room) (λ x. Stops ASSIGN)
+
 -- a declared name and what it is given
 pub record SlotAt (room : ℕ) (x : Tall Slot) : Type 0 where
   pub stands : stands DECLARED (slot x.node) ≡ true
@@ -317,13 +339,25 @@ pub record SlotAt (room : ℕ) (x : Tall Slot) : Type 0 where
 abbrev pub ReadsSlot : ℕ → Place → Place → Result (Tall Slot) TokenFault → Type 0
 ReadsSlot room = ReadsAs (λ x. slot_line x.node) (SlotAt room) (λ x. Stops ASSIGN)
 
+-- a further one, with its comma
+pub record FurtherSlotAt (room : ℕ) (x : Tall (Further Slot)) : Type 0 where
+  pub stands : stands DECLARED (slot x.node.item) ≡ true
+  pub height : x.height ≡ (slot x.node.item).height
+  pub fits : x.height ≤ room
+
+abbrev pub further_slot_line : Further Slot → Onto
+further_slot_line = further_row pieces slot_line (is kind.Comma)
+
+abbrev pub ReadsFurtherSlot : ℕ → Place → Place → Result (Tall (Further Slot)) TokenFault → Type 0
+ReadsFurtherSlot room = ReadsAs (λ x. further_slot_line x.node) (FurtherSlotAt room) (λ x. Stops ASSIGN)
+
 pub record SlotsAt (room : ℕ) (x : Tall (List (Further Slot))) : Type 0 where
   pub each : list_all (λ y. stands DECLARED (slot y.item)) x.node ≡ true
   pub height : x.height ≡ tallest_of (λ y. (slot y.item).height) x.node
   pub fits : x.height ≤ room
 
 abbrev pub slots_line : List (Further Slot) → Onto
-slots_line = each_of (further_row pieces slot_line (is kind.Comma))
+slots_line = each_of further_slot_line
 
 abbrev pub ReadsSlots : ℕ → Place → Place → Result (Tall (List (Further Slot))) TokenFault → Type 0
 ReadsSlots room = ReadsMaybe (λ x. slots_line x.node) (SlotsAt room) (λ x. Stops 0)
@@ -337,6 +371,29 @@ pub record StmtAt (room : ℕ) (x : Tall Stmt) : Type 0 where
 
 abbrev pub ReadsStmt : ℕ → Place → Place → Result (Tall Stmt) TokenFault → Type 0
 ReadsStmt room = ReadsAs (λ x. stmt_line x.node) (StmtAt room) (Anywhere (Tall Stmt))
+
+-- what a function gives, on the line of its word
+abbrev pub given_line : Option Expr → Onto
+given_line = maybe (λ x rest. Ahead on_line ∷ expr_line x rest)
+
+abbrev pub given_stands : Option Expr → Bool
+given_stands = passes (λ x. stands 0 (expr x))
+
+abbrev pub given_height : Option Expr → ℕ
+given_height o = maybe (λ (x : Expr) h. max (expr x).height h) o 0
+
+pub record GivenAt (room : ℕ) (x : Tall (Option Expr)) : Type 0 where
+  pub stands : given_stands x.node ≡ true
+  pub height : x.height ≡ given_height x.node
+  pub fits : x.height ≤ room
+
+-- a `;` follows
+abbrev pub BeforeSemicolon : List Piece → Type 0
+BeforeSemicolon [] = ⊥
+BeforeSemicolon (x ∷ xs) = (t : Token) × (x ≡ Tok t (is kind.Semicolon))
+
+abbrev pub ReadsGiven : ℕ → Place → Place → Result (Tall (Option Expr)) TokenFault → Type 0
+ReadsGiven room = ReadsMaybe (λ x. given_line x.node) (GivenAt room) (λ x. BeforeSemicolon)
 
 -- statements no taller than the room, with the height of the tallest
 pub record StmtsAt (room : ℕ) (x : Tall (List Stmt)) : Type 0 where

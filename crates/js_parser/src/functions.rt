@@ -2,20 +2,19 @@
 ghost use Rattle.std.specs.Prelude.{◌≡◌, ◌≤◌, ◌<◌, ◌-◌};
 ghost use Rattle.js_parser.specs.Nodes.{Knot, ReadsFunction, ReadsParameters, ReadsParameter, ReadsBlock};
 
+use crate::brackets::{goes_on, put};
 use crate::grammar::Grammar;
-use crate::kinds::are_same;
 use crate::marks::{mark, maybe_mark};
 use crate::tall::{Tall, Value, higher};
 use js_tokens::{TokenFault, TokenReader};
-use js_tree::{Block, Bracket, Element, Function, Listed, Pattern, Slot, Stmt, TokenKind};
+use js_tree::{Block, Bracket, Element, Function, Pattern, Slot, Stmt, TokenKind};
 use sqlite_items::Items;
 use std::alloc::Global;
 
 impl<
     E: Fn(Global, &mut TokenReader<'_>, u32, u8) -> Result<Value, TokenFault>,
     S: Fn(Global, &mut TokenReader<'_>, u32) -> Result<Tall<Items<Stmt>>, TokenFault>,
-> Grammar<E, S>
-{
+> Grammar<E, S> {
     /// A function with the word `function`.
     pub fn function(&self, reader: &mut TokenReader<'_>) -> Result<Tall<Function>, TokenFault>
         requires knot { Knot self.now.room (E.pre self.now.expr) (E.post self.now.expr) (S.pre self.now.stmts) (S.post self.now.stmts) }
@@ -65,18 +64,14 @@ fn parameters(
     let mut front = Items::new(alloc);
     let mut last = None;
     let mut height = 0;
-    'parameters: while last.is_none() && !are_same(TokenKind::RightParen, reader.kind()) {
+    'parameters: while goes_on(&last, reader.kind()) {
         let Tall {
             node: item,
             height: tall,
         } = parameter(alloc, reader, room)?;
+        let comma = maybe_mark(alloc, reader, TokenKind::Comma)?;
         height = higher(height, tall);
-        if are_same(TokenKind::Comma, reader.kind()) {
-            let mark = mark(alloc, reader, TokenKind::Comma)?;
-            front.push(Listed { item, mark })?;
-        } else {
-            last = Some(item);
-        }
+        put(&mut front, &mut last, item, comma)?;
     }
     let close = mark(alloc, reader, TokenKind::RightParen)?;
     Ok(Tall {

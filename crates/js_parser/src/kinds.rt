@@ -200,3 +200,14 @@ pub fn statement_of(kind: TokenKind) -> Statement
         _ => Statement::Plain,
     }
 }
+
+/// Whether no statement can follow.
+pub fn closes(kind: TokenKind) -> bool
+    ensures { result ≡ following.closes kind }
+{
+    match kind {
+        TokenKind::RightBrace => true,
+        TokenKind::End => true,
+        _ => false,
+    }
+}

@@ -6,6 +6,7 @@
 #![tactic(auto)]
 
 mod assignments;
+mod brackets;
 mod chains;
 mod expressions;
 mod fault;

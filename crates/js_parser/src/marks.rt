@@ -1,13 +1,16 @@
 //! Tokens of one kind, and with which strength the next token binds.
-ghost use Rattle.std.specs.Prelude.{◌≡◌, ◌<◌, IfOk, OnErr, length, true, false};
+ghost use Rattle.std.specs.Prelude.{◌≡◌, ◌<◌, Option, IfOk, OnErr, length, true, false};
 ghost use Rattle.js_tree.specs.declared.token.Token.{Token};
 ghost use Rattle.js_tree.specs.Lexical.{Next};
 ghost use Rattle.js_tree.specs.Pieces.{one, kind as kind_of};
+ghost use Rattle.js_tree.specs.Spelling.Nodes.{pieces};
+ghost use Rattle.js_tree.specs.Spelling.Rows.{may_mark};
 ghost use Rattle.js_tree.specs.TokenKinds.{is};
 ghost use Rattle.js_tokens.specs.declared.goal.Goal.TheVariants as goals;
 ghost use Rattle.js_tokens.specs.Ahead.{reads};
 ghost use Rattle.js_tokens.specs.Pieces.{OnlyRead, Any, Anywhere, Moves};
 ghost use Rattle.js_parser.specs.Following.{IsStrength};
+ghost use Rattle.js_parser.specs.Nodes.{NoMark, ReadsMaybe};
 
 use crate::kinds::{are_same, strength};
 use js_tokens::{Goal, TokenFault, TokenReader};
@@ -50,6 +53,7 @@ pub fn maybe_mark(
 ) -> Result<Option<Token>, TokenFault>
     requires plain { reads goals.Operator kind ≡ true }
     requires some { is TokenKind.End kind ≡ false }
+    ensures reads { ReadsMaybe (may_mark pieces kind) (Any (Option Token)) (NoMark kind) reader.old reader.new result }
 {
     if !are_same(kind, reader.kind()) {
         return Ok(None);

@@ -1,23 +1,23 @@
 //! Statements (ECMA-262, clause 13).
-ghost use Rattle.std.specs.Prelude.{◌≡◌, ◌≤◌, ◌<◌, ◌-◌};
+ghost use Rattle.std.specs.Prelude.{◌≡◌, ◌≤◌, ◌<◌, ◌-◌, is_some};
+ghost use Rattle.js_tree.specs.Spelling as seen;
 ghost use Rattle.js_parser.specs.declared.kinds.Statement.TheVariants as sorts;
 ghost use Rattle.js_parser.specs.Following.{LeadsToStmt};
-ghost use Rattle.js_parser.specs.Nodes.{Knot, ReadsStmt, ReadsStmts, ReadsSlot, ReadsSlots};
+ghost use Rattle.js_parser.specs.Nodes.{Knot, ReadsStmt, ReadsStmts, ReadsSlot, ReadsFurtherSlot, ReadsSlots, ReadsInit, ReadsGiven};
 
 use crate::grammar::Grammar;
-use crate::kinds::{Statement, are_same, statement_of};
+use crate::kinds::{Statement, are_same, closes, statement_of};
 use crate::marks::mark;
 use crate::tall::{Tall, Value, higher};
 use js_tokens::{TokenFault, TokenReader};
-use js_tree::{Expr, Function, Further, Init, Pattern, Slot, Stmt, Token, TokenKind};
+use js_tree::{Expr, Function, Further, Init, Pattern, Slot, Stmt, TokenKind};
 use sqlite_items::{Boxed, Items};
 use std::alloc::Global;
 
 impl<
     E: Fn(Global, &mut TokenReader<'_>, u32, u8) -> Result<Value, TokenFault>,
     S: Fn(Global, &mut TokenReader<'_>, u32) -> Result<Tall<Items<Stmt>>, TokenFault>,
-> Grammar<E, S>
-{
+> Grammar<E, S> {
     /// Statements, up to a `}` or the end.
     pub fn statements(&self, reader: &mut TokenReader<'_>) -> Result<Tall<Items<Stmt>>, TokenFault>
         requires knot { Knot self.now.room (E.pre self.now.expr) (E.post self.now.expr) (S.pre self.now.stmts) (S.post self.now.stmts) }
@@ -66,11 +66,10 @@ impl<
         if !is_named(&node) {
             return Err(refusal);
         }
+        let function = Boxed::new(self.alloc, node)?;
         Ok(Tall {
             height: height + 1,
-            node: Stmt::Fun {
-                function: Boxed::new(self.alloc, node)?,
-            },
+            node: Stmt::Fun { function },
         })
     }
 
@@ -108,15 +107,28 @@ impl<
         let mut all = Items::new(self.alloc);
         let mut height = 0;
         'slots: while are_same(TokenKind::Comma, reader.kind()) {
-            let mark = mark(self.alloc, reader, TokenKind::Comma)?;
-            let slot = self.slot(reader)?;
-            height = higher(height, slot.height);
-            all.push(Further {
-                mark,
-                item: slot.node,
-            })?;
+            let Tall { node, height: tall } = self.further_slot(reader)?;
+            height = higher(height, tall);
+            all.push(node)?;
         }
         Ok(Tall { node: all, height })
+    }
+
+    // A further declaration with its comma.
+    fn further_slot(&self, reader: &mut TokenReader<'_>) -> Result<Tall<Further<Slot>>, TokenFault>
+        requires knot { Knot self.now.room (E.pre self.now.expr) (E.post self.now.expr) (S.pre self.now.stmts) (S.post self.now.stmts) }
+        requires some { 0 < self.now.room }
+        ensures reads { ReadsFurtherSlot (self.now.room - 1) reader.old reader.new result }
+    {
+        let mark = mark(self.alloc, reader, TokenKind::Comma)?;
+        let slot = self.slot(reader)?;
+        Ok(Tall {
+            height: slot.height,
+            node: Further {
+                mark,
+                item: slot.node,
+            },
+        })
     }
 
     // A name that is declared, and what it is given.
@@ -128,22 +140,40 @@ impl<
         if self.room == 1 {
             return Err(reader.refusal());
         }
-        let target = Pattern::Name(mark(self.alloc, reader, TokenKind::Name)?);
+        let name = mark(self.alloc, reader, TokenKind::Name)?;
+        let init = self.init(reader)?;
+        Ok(Tall {
+            height: higher(1, init.height),
+            node: Slot {
+                target: Pattern::Name(name),
+                init: init.node,
+            },
+        })
+    }
+
+    // What a name is given, where it is given anything.
+    fn init(
+        &self,
+        reader: &mut TokenReader<'_>,
+    ) -> Result<Tall<Option<Init<Boxed<Expr>>>>, TokenFault>
+        requires knot { Knot self.now.room (E.pre self.now.expr) (E.post self.now.expr) (S.pre self.now.stmts) (S.post self.now.stmts) }
+        requires some { 0 < self.now.room }
+        ensures reads { ReadsInit (self.now.room - 1) reader.old reader.new result }
+    {
         if !are_same(TokenKind::Assign, reader.kind()) {
             return Ok(Tall {
-                node: Slot { target, init: None },
-                height: 1,
+                node: None,
+                height: 0,
             });
         }
         let equals = mark(self.alloc, reader, TokenKind::Assign)?;
         let value = self.inner(reader, 1)?;
-        let init = Some(Init {
-            equals,
-            value: value.node,
-        });
         Ok(Tall {
-            node: Slot { target, init },
-            height: higher(1, value.height),
+            height: value.height,
+            node: Some(Init {
+                equals,
+                value: value.node,
+            }),
         })
     }
 
@@ -155,18 +185,37 @@ impl<
         ensures reads { ReadsStmt self.now.room reader.old reader.new result }
     {
         let word = mark(self.alloc, reader, TokenKind::Return)?;
-        if are_same(TokenKind::Semicolon, reader.kind()) || reader.nl_before() {
-            let semi = mark(self.alloc, reader, TokenKind::Semicolon)?;
-            return Ok(Tall {
-                node: return_of(word, None, semi),
-                height: 1,
-            });
-        }
-        let value = self.inner(reader, 0)?;
+        let value = self.given(reader)?;
         let semi = mark(self.alloc, reader, TokenKind::Semicolon)?;
         Ok(Tall {
             height: value.height + 1,
-            node: return_of(word, Some(value.node), semi),
+            node: Stmt::Return {
+                word,
+                value: value.node,
+                semi: Some(semi),
+            },
+        })
+    }
+
+    // What a function gives, on the line of its word, where it gives anything.
+    fn given(&self, reader: &mut TokenReader<'_>) -> Result<Tall<Option<Boxed<Expr>>>, TokenFault>
+        requires knot { Knot self.now.room (E.pre self.now.expr) (E.post self.now.expr) (S.pre self.now.stmts) (S.post self.now.stmts) }
+        requires some { 0 < self.now.room }
+        ensures reads { ReadsGiven (self.now.room - 1) reader.old reader.new result }
+    {
+        if are_same(TokenKind::Semicolon, reader.kind()) {
+            return Ok(Tall {
+                node: None,
+                height: 0,
+            });
+        }
+        if reader.nl_before() {
+            return Err(reader.refusal());
+        }
+        let value = self.inner(reader, 0)?;
+        Ok(Tall {
+            height: value.height,
+            node: Some(value.node),
         })
     }
 
@@ -189,16 +238,10 @@ impl<
     }
 }
 
-// Whether no statement can follow.
-fn closes(kind: TokenKind) -> bool
+// Whether the function has a name.
+fn is_named(function: &Function) -> bool
+    ensures { result ≡ is_some (seen.function function.now).name }
 {
-    match statement_of(kind) {
-        Statement::Nothing => true,
-        _ => false,
-    }
-}
-
-fn is_named(function: &Function) -> bool {
     match function {
         Function::Keyword {
             word: _,
@@ -206,13 +249,5 @@ fn is_named(function: &Function) -> bool {
             params: _,
             body: _,
         } => name.is_some(),
-    }
-}
-
-fn return_of(word: Token, value: Option<Boxed<Expr>>, semi: Token) -> Stmt {
-    Stmt::Return {
-        word,
-        value,
-        semi: Some(semi),
     }
 }

@@ -1,4 +1,12 @@
 //! A whole text as a tree.
+ghost use Rattle.std.specs.Prelude.{◌≡◌, ◌+◌, ◌≤◌, length, IfOk, IfErr, nat_le, if◌then◌else◌};
+ghost use Rattle.js_tree.specs.declared.tree.Tree.{Tree};
+ghost use Rattle.js_tree.specs.Lexing.{start_of};
+ghost use Rattle.js_tree.specs.Spells.{Spells, limit};
+ghost use Rattle.js_tokens.specs.Pieces.{Gives, Refuses};
+ghost use Rattle.js_tokens.specs.declared.fault.TokenFault.TheVariants as unread;
+ghost use Rattle.js_parser.specs.Answers.{IsFaultOf, IsTree, TellsTooLarge, IsPlaced, IsAtCharacter, IsUnspelled};
+
 use crate::fault::{Construct, ParseFault};
 use crate::knot::stmts;
 use crate::tall::Tall;
@@ -15,7 +23,12 @@ const LIMIT: usize = 8_388_608;
 const DEPTH: u32 = 256;
 
 // The tree that spells the text, which is within the limit.
-fn tree(alloc: Global, text: &str) -> Result<Tree, TokenFault> {
+fn tree(alloc: Global, text: &str) -> Result<Tree, TokenFault>
+    requires { length text.now ≤ limit }
+    ensures found { IfOk result (λ tree. Spells text.now tree) }
+    ensures only { (tree : Tree) → Spells text.now tree → Gives result tree (Unit {0}) }
+    ensures placed { IfErr result (Refuses (start_of text.now)) }
+{
     let mut reader = TokenReader::new(text);
     let Tall {
         node: body,
@@ -25,6 +38,26 @@ fn tree(alloc: Global, text: &str) -> Result<Tree, TokenFault> {
         Ok(Tree { body })
     } else {
         Err(reader.refusal())
+    }
+}
+
+// The fault of the parser for a fault of reading.
+fn fault_of(text: &str, fault: TokenFault) -> ParseFault
+    ensures { IsFaultOf fault result }
+{
+    match fault {
+        TokenFault::OutOfMemory => ParseFault::OutOfMemory,
+        TokenFault::Unexpected { at } => stop_at(text, at),
+    }
+}
+
+// Reading stopped at the offset.
+fn stop_at(text: &str, at: u32) -> ParseFault
+    ensures { IsFaultOf (unread.Unexpected at) result }
+{
+    match construct_at(text, at as usize) {
+        Some(what) => ParseFault::Construct { at, what },
+        None => ParseFault::NotInProfile { at },
     }
 }
 
@@ -47,11 +80,19 @@ fn construct_at(text: &str, at: usize) -> Option<Construct> {
 }
 
 /// The tree that spells the text (ECMA-262, clauses 11 to 15, as far as the profile goes).
-pub fn parse<L: Ledger>(
-    alloc: Global,
-    text: &str,
-    steps: &mut Steps<L>,
-) -> Result<Tree, ParseFault> {
+///
+/// A text over 8,388,608 bytes is `TooLarge`, with its length. Where no tree spells the text, the answer is `Construct`
+/// or `NotInProfile` with the offset in bytes at which reading stopped. `steps` rises by the length of a text within the
+/// limit, whatever the answer, and by nothing otherwise.
+pub fn parse<L: Ledger>(alloc: Global, text: &str, steps: &mut Steps<L>) -> Result<Tree, ParseFault>
+    ensures found { IfOk result (λ tree. Spells text.now tree) }
+    ensures only { (tree : Tree) → Spells text.now tree → IsTree result tree }
+    ensures too_large { TellsTooLarge text.now result }
+    ensures placed { IsPlaced text.now result }
+    ensures at_character { IsAtCharacter text.now result }
+    ensures unspelled { IsUnspelled text.now result }
+    ensures cost { steps.new ≡ steps.old + (if nat_le (length text.now) limit then length text.now else 0) }
+{
     if text.len() > LIMIT {
         return Err(ParseFault::TooLarge {
             length: text.len() as u64,
@@ -60,10 +101,6 @@ pub fn parse<L: Ledger>(
     steps.count(text.len() as u64);
     match tree(alloc, text) {
         Ok(tree) => Ok(tree),
-        Err(TokenFault::OutOfMemory) => Err(ParseFault::OutOfMemory),
-        Err(TokenFault::Unexpected { at }) => match construct_at(text, at as usize) {
-            Some(what) => Err(ParseFault::Construct { at, what }),
-            None => Err(ParseFault::NotInProfile { at }),
-        },
+        Err(fault) => Err(fault_of(text, fault)),
     }
 }
