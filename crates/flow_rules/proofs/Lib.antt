@@ -7,3 +7,4 @@ pub mod Places
 pub mod RuleLemmas
 pub mod SortedLemmas
 pub mod ValueLemmas
+pub mod ValueTexts
