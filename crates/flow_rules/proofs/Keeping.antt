@@ -102,6 +102,10 @@ abbrev IsTextIfAny : Option Token → Type 0
 IsTextIfAny None = Unit {0}
 IsTextIfAny (Some t) = IsOfText t
 
+-- the item behind the first
+behind_first : {X : Type 0} (x : X) (xs : List X) (k : ℕ) (d : X) → slice_index_or (x ∷ xs) (k + 1) d ≡ slice_index_or xs k d
+behind_first x xs k d = let e : k + 1 ≡ suc k = omega arith in ap (λ n. slice_index_or (x ∷ xs) n d) e
+
 -- PARTS THAT ARE NO TAILS
 
 abbrev is_untailed : Node → Bool
@@ -457,11 +461,11 @@ module _ (tree : Tree) (h : IsInText (ABody tree.body)) where
 
   places_are : (es : List (Element Expr)) → places (map given_by es) ≡ length (placed es)
   places_are [] = refl
-  places_are (e ∷ es) = by e.dots
+  places_are (e ∷ es) = by e.dots (places_are es)
     where
-      by : (o : Option Token) → places (map given_by (record { dots = o; value = e.value } ∷ es)) ≡ length (placed (record { dots = o; value = e.value } ∷ es))
-      by None = ap suc (places_are es)
-      by (Some t) = refl
+      by : (o : Option Token) → places (map given_by es) ≡ length (placed es) → places (map given_by (record { dots = o; value = e.value } ∷ es)) ≡ length (placed (record { dots = o; value = e.value } ∷ es))
+      by None r = ap suc r
+      by (Some t) r = refl
 
   made_given : (args : Option (Bracket Expr)) → AllByRecursion In (maybe (bracket_row unmarked nodes.expr) args []) → AllByRecursion Given (map given_by (made_with args))
   made_given None i = tt
@@ -506,14 +510,14 @@ module _ (tree : Tree) (h : IsInText (ABody tree.body)) where
       let v = value_there head i.0 in
       let rest = maybe (bracket_row unmarked nodes.expr) args [] in
       (tt, tails_behind_there head [] tails rest i.1 v v (untailed_behind rest (made_untailed args)))
-  expr_behind (Expr-F.Template t) i = untailed_behind _ (template_untailed t.parts)
-  expr_behind (Expr-F.Binary level first others) i = untailed_behind _ (further_untailed (is_binary level) others)
-  expr_behind (Expr-F.Cond arms last) i = untailed_behind _ (arms_untailed arms last)
-  expr_behind (Expr-F.Comma first others) i = untailed_behind _ (further_untailed (is kind.Comma) others)
+  expr_behind (Expr-F.Template t) i = untailed_behind (template_parts unmarked nodes.expr t.parts []) (template_untailed t.parts)
+  expr_behind (Expr-F.Binary level first others) i = untailed_behind (AnExpr first ∷ each_of (further_row unmarked nodes.expr (is_binary level)) others []) (further_untailed (is_binary level) others)
+  expr_behind (Expr-F.Cond arms last) i = untailed_behind (each_of (arm_row unmarked nodes.expr) arms (AnExpr last ∷ [])) (arms_untailed arms last)
+  expr_behind (Expr-F.Comma first others) i = untailed_behind (AnExpr first ∷ each_of (further_row unmarked nodes.expr (is kind.Comma)) others []) (further_untailed (is kind.Comma) others)
   expr_behind l i = untailed_behind (expr_row nodes l []) refl
 
   function_behind : (l : FunctionLayer) → AllByRecursion Behind (function_row nodes l [])
-  function_behind (Function-F.Keyword word name params b) = untailed_behind _ (bracket_untailed nodes.slot slot_none params.front params.last (each_of nodes.stmt b.body []) (stmts_untailed b.body))
+  function_behind (Function-F.Keyword word name params b) = untailed_behind (function_row nodes (Function-F.Keyword word name params b) []) (bracket_untailed nodes.slot slot_none params.front params.last (each_of nodes.stmt b.body []) (stmts_untailed b.body))
 
   pattern_behind : (l : PatternLayer) → AllByRecursion Behind (pattern_row nodes l [])
   pattern_behind l = untailed_behind (pattern_row nodes l []) (by l)
@@ -524,7 +528,7 @@ module _ (tree : Tree) (h : IsInText (ABody tree.body)) where
       by (Pattern-F.«Pattern::Paren» begin inner end) = refl
 
   stmt_behind : (l : StmtLayer) → AllByRecursion Behind (stmt_row nodes l [])
-  stmt_behind (Stmt-F.Vars word first others semi) = untailed_behind _ (slots_untailed (is kind.Comma) others)
+  stmt_behind (Stmt-F.Vars word first others semi) = untailed_behind (ASlot first ∷ each_of (further_row unmarked nodes.slot (is kind.Comma)) others []) (slots_untailed (is kind.Comma) others)
   stmt_behind (Stmt-F.Return word None semi) = tt
   stmt_behind (Stmt-F.Return word (Some x) semi) = (tt, tt)
   stmt_behind (Stmt-F.Plain x semi) = (tt, tt)
@@ -537,8 +541,8 @@ module _ (tree : Tree) (h : IsInText (ABody tree.body)) where
   tail_behind : (head : Expr) (before : List (Tail Expr)) (t : Tail Expr) → AllByRecursion Behind (parts (ATail head before t))
   tail_behind head before (tail.Member dot name) = tt
   tail_behind head before (tail.Index begin x end) = (tt, tt)
-  tail_behind head before (tail.Call a) = untailed_behind _ (made_untailed (Some a))
-  tail_behind head before (tail.Template t) = untailed_behind _ (template_untailed t.parts)
+  tail_behind head before (tail.Call a) = untailed_behind (bracket_row unmarked nodes.expr a []) (made_untailed (Some a))
+  tail_behind head before (tail.Template t) = untailed_behind (template_parts unmarked nodes.expr t.parts []) (template_untailed t.parts)
 
   parts_behind : (n : Node) → In n → AllByRecursion Behind (parts n)
   parts_behind (AnExpr x) i = expr_behind (out-Expr x) (at_parts At (AnExpr x) i)
@@ -547,7 +551,7 @@ module _ (tree : Tree) (h : IsInText (ABody tree.body)) where
   parts_behind (AStmt x) i = stmt_behind (out-Stmt x)
   parts_behind (ASlot x) i = slot_behind (out-Slot x).target (out-Slot x).init
   parts_behind (ATail head before t) i = tail_behind head before t
-  parts_behind (ABody b) i = untailed_behind _ (stmts_untailed b)
+  parts_behind (ABody b) i = untailed_behind (each_of nodes.stmt b []) (stmts_untailed b)
 
   abbrev Whole : Node → Type 0
   Whole n = In n × Behind n
@@ -627,11 +631,14 @@ module _ (tree : Tree) (h : IsInText (ABody tree.body)) where
       by : (d : Option Token) → AllByRecursion (λ s. In (ASlot s)) (placed (record { dots = d; value = e.value } ∷ []))
       by None = (i.0, tt)
       by (Some t) = tt
-  slots_placed (e ∷ es) o rest i = by e.item.dots
+  slots_placed (e ∷ es) o rest i = by e.item.dots (slots_placed es o rest i.1)
     where
-      by : (d : Option Token) → AllByRecursion (λ s. In (ASlot s)) (placed (record { dots = d; value = e.item.value } ∷ map (λ x. x.item) es ++ listed o))
-      by None = (i.0, slots_placed es o rest i.1)
-      by (Some t) = tt
+      others : List (Element Slot)
+      others = map (λ (x : Listed (Element Slot)). x.item) es ++ listed o
+
+      by : (d : Option Token) → AllByRecursion (λ s. In (ASlot s)) (placed others) → AllByRecursion (λ s. In (ASlot s)) (placed (record { dots = d; value = e.item.value } ∷ others))
+      by None r = (i.0, r)
+      by (Some t) r = tt
 
   params_at : (l : FunctionLayer) → AllByRecursion In (function_row nodes l []) → AllByRecursion (λ s. In (ASlot s)) (params_in l)
   params_at (Function-F.Keyword word name params b) i = slots_placed params.front params.last (each_of nodes.stmt b.body []) i
@@ -835,7 +842,8 @@ module _ (tree : Tree) (h : IsInText (ABody tree.body)) where
       let same : g ≡ t.0 = one_of (starts_at g.start) raw g t.0 (one_function g.start) m back (nat_same g.start g.start refl) (nat_same t.0.start g.start t.2) in
       let found = at_count inner t.0 t.1 (sorted_ascending function_order function_total raw) in
       (subst (λ n. n < N) e (below_at g m),
-      λ d. subst (λ n. i < (slice_index_or (functions_of tree) n d).params) (ap (function_number (numbering_of tree)) (sym t.2) ∙ e) (subst (λ k. i < k.params) (same ∙ sym (found d)) lt))
+      λ d. subst (λ n. i < (slice_index_or (functions_of tree) n d).params) (ap (function_number (numbering_of tree)) t.2 ∙ e)
+      (subst (λ (k : FunctionInfo). i < k.params) (same ∙ sym (behind_first _ inner _ d ∙ found d)) lt))
 
   one_site : (offset part : ℕ) → count_by (is_at offset part) S ≤ 1
   one_site offset part = let o = h.once offset in let k = counted (own_sites known) (holder_in known) (is_at offset part) (λ (t : Token). t.start == offset) (own_once known offset part) body 0 in omega (arith, o, k)

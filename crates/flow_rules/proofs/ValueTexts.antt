@@ -1,12 +1,12 @@
 -- The value of a string isn't much longer than the string.
-use Rattle.std.proofs.Common.{◌≡◌, ℕ, ◌+◌, ◌*◌, ◌<◌, ◌≤◌, Bool, true, false, ◌&&◌, nat_lt, cond, List, [], ◌∷◌, ◌++◌, ◌-◌, map, drop, length, length-append, subst, sym, ap, arith, Option, Some, None, option_and_then, if◌then◌else◌}
+use Rattle.std.proofs.Common.{◌≡◌, ℕ, zero, suc, ◌+◌, ◌*◌, ◌/◌, ◌%◌, ◌<◌, ◌≤◌, Bool, true, false, ◌&&◌, nat_lt, cond, List, [], ◌∷◌, ◌++◌, ◌-◌, map, take, drop, length, length-append, subst, sym, ap, arith, Option, Some, None, option_and_then, if◌then◌else◌}
 use Rattle.std.specs.Char.Escape.{encode_utf16}
 use Rattle.std.specs.Char.Utf16.{has_unpaired_surrogate, is_high_surrogate, is_low_surrogate, lone_unit_char, surrogate_pair_char, utf16_chars, utf16_lossy_chars}
 use Rattle.std.specs.List.{fold}
 use Rattle.std.specs.Option.{unwrap_or}
 use Rattle.std.specs.Str.{chars, encode_utf8_all}
 use Rattle.std.proofs.Math.Utf8.{encode}
-use Rattle.std.proofs.lemmas.List.{length-drop, length-map, length-take}
+use Rattle.std.proofs.lemmas.List.{length-drop, length-map}
 use Rattle.std.proofs.lemmas.Str.{length-encode}
 use Rattle.jam_base.proofs.Walks.{chars-length}
 use Rattle.js_tree.specs.declared.escape.ValuePart.{ValuePart}
@@ -15,12 +15,17 @@ use Rattle.js_tree.specs.Lexical.Value.{between, may_end, next, step, text_of, u
 use Rattle.js_tree.specs.Spells.{limit}
 use Rattle.flow_rules.specs.Rules.{IsShort}
 
+one_or_two : (b : Bool) (x y z : ℕ) → length (cond b (x ∷ []) (y ∷ z ∷ [])) ≤ 2
+one_or_two true x y z = omega arith
+one_or_two false x y z = omega arith
+
 unit_few : (c : ℕ) → length (encode_utf16 c) ≤ 2
-unit_few c = by (nat_lt c 0x1_0000)
-  where
-    by : (b : Bool) → length (cond b (c ∷ []) (_ ∷ _ ∷ [])) ≤ 2
-    by true = omega arith
-    by false = omega arith
+unit_few c = one_or_two (nat_lt c 0x1_0000) c (0xD800 + (c - 0x1_0000) / 0x400) (0xDC00 + (c - 0x1_0000) % 0x400)
+
+take_few : (k : ℕ) (xs : List ℕ) → length (take k xs) ≤ length xs
+take_few zero xs = omega arith
+take_few (suc k) [] = omega arith
+take_few (suc k) (x ∷ xs) = let a = take_few k xs in omega (arith, a)
 
 units_few : (p : ValuePart) (cs : List ℕ) → length (units_from p cs) ≤ 2 * length cs
 units_few p [] = omega arith
@@ -93,7 +98,7 @@ pub short_value : (text : List ℕ) → length text ≤ limit → IsShortIfAny (
 short_value text le = by (value_of text) (value_few (between (chars text)))
   where
     within : length (between (chars text)) ≤ length text
-    within = let a = chars-length text in let b = length-drop 1 (chars text) in let c = length-take (length (chars text) - 2) (drop 1 (chars text)) in omega (arith, a, b, c)
+    within = let a = chars-length text in let b = length-drop 1 (chars text) in let c = take_few (length (chars text) - 2) (drop 1 (chars text)) in omega (arith, a, b, c)
 
     by : (o : Option (List ℕ)) → IsAtMost (8 * length (between (chars text))) o → IsShortIfAny o
     by None h = tt

@@ -1,5 +1,5 @@
 //! The flows of a module.
-ghost use Rattle.std.specs.Prelude.{◌≡◌, ◌<◌, ◌++◌, length, map, OnOk};
+ghost use Rattle.std.specs.Prelude.{◌≡◌, ◌<◌, ◌++◌, [], Some, if◌then◌else◌, length, map, OnOk};
 ghost use Rattle.std.specs.Option.{option_map};
 ghost use Rattle.js_tree.specs.declared.tree.Expr.{out-Expr};
 ghost use Rattle.js_tree.specs.declared.tree.Pattern.{out-Pattern};
@@ -10,6 +10,8 @@ ghost use Rattle.js_tree.specs.Tokens.{IsInText};
 ghost use Rattle.js_scopes.specs.AtHand.{known_in};
 ghost use Rattle.flow_rules.specs.Arguments.{arguments_meant};
 ghost use Rattle.flow_rules.specs.AtHand.{facts_in};
+ghost use Rattle.flow_rules.specs.declared.vertex.Vertex.TheVariants as vertex;
+ghost use Rattle.flow_rules.specs.Calls.{flow};
 ghost use Rattle.flow_rules.specs.Flows as seen;
 
 use crate::calls::{push_made, push_tail_flows};
@@ -309,8 +311,21 @@ fn push_param(
         index,
     });
     push_into(alloc, facts, &param.target, &taken, out)?;
+    push_if_used(alloc, facts, number, &taken, out)
+}
+
+// Where the function's `arguments` are used, what is taken is an element.
+fn push_if_used(
+    alloc: Global,
+    facts: &Facts<'_>,
+    number: u32,
+    taken: &Option<Vertex>,
+    out: &mut Vec<Flow>,
+) -> Result<(), OutOfMemory>
+    ensures { OnOk result (out.new.items ≡ out.old.items ++ (if (facts_in facts.now).uses_arguments number then flow taken.now (Some vertex.Elem) else [])) }
+{
     if facts.arguments.has(number) {
-        push_flow(alloc, &taken, Vertex::Elem, out)?;
+        return push_flow(alloc, taken, Vertex::Elem, out);
     }
     Ok(())
 }
