@@ -77,6 +77,7 @@ use Rattle.flow_rules.proofs.Lengths.{few_flows, few_notes, few_requires, few_si
 use Rattle.flow_rules.proofs.Order.{ranked_equal}
 use Rattle.flow_rules.proofs.RuleLemmas.{site_parts, site_total, require_total}
 use Rattle.flow_rules.proofs.SortedLemmas.{all_ascending, some_ascending, sorted_ascending}
+use Rattle.flow_rules.proofs.Untailed.{arms_untailed, bracket_untailed, further_untailed, is_untailed, made_untailed, slot_none, slots_untailed, stmts_untailed, template_untailed}
 use Rattle.flow_rules.proofs.ValueLemmas.{front_is, up_to_last}
 use Rattle.flow_rules.proofs.ValueTexts.{IsShortIfAny, short_value}
 use Rattle.flow_rules.proofs.Ones.{at_count, both_true, contained, count_below, each_itself, functions_once, is_at, nat_same, one_of, own_of_text, own_once, short, some_from, starts_at}
@@ -105,50 +106,6 @@ IsTextIfAny (Some t) = IsOfText t
 -- the item behind the first
 behind_first : {X : Type 0} (x : X) (xs : List X) (k : ℕ) (d : X) → slice_index_or (x ∷ xs) (k + 1) d ≡ slice_index_or xs k d
 behind_first x xs k d = let e : k + 1 ≡ suc k = omega arith in ap (λ n. slice_index_or (x ∷ xs) n d) e
-
--- PARTS THAT ARE NO TAILS
-
-abbrev is_untailed : Node → Bool
-is_untailed (ATail head before t) = false
-is_untailed _ = true
-
-further_untailed : (test : TokenKind → Bool) (xs : List (Further Expr)) → list_all is_untailed (each_of (further_row unmarked nodes.expr test) xs []) ≡ true
-further_untailed test [] = refl
-further_untailed test (x ∷ xs) = further_untailed test xs
-
-slots_untailed : (test : TokenKind → Bool) (xs : List (Further Slot)) → list_all is_untailed (each_of (further_row unmarked nodes.slot test) xs []) ≡ true
-slots_untailed test [] = refl
-slots_untailed test (x ∷ xs) = slots_untailed test xs
-
-arms_untailed : (xs : List (Arm Expr)) (last : Expr) → list_all is_untailed (each_of (arm_row unmarked nodes.expr) xs (AnExpr last ∷ [])) ≡ true
-arms_untailed [] last = refl
-arms_untailed (x ∷ xs) last = arms_untailed xs last
-
-template_untailed : (xs : List (Listed Expr)) → list_all is_untailed (template_parts unmarked nodes.expr xs []) ≡ true
-template_untailed [] = refl
-template_untailed (x ∷ xs) = template_untailed xs
-
-stmts_untailed : (xs : List Stmt) → list_all is_untailed (each_of nodes.stmt xs []) ≡ true
-stmts_untailed [] = refl
-stmts_untailed (x ∷ xs) = stmts_untailed xs
-
--- items in brackets, where those of what follows are none
-module _ {X : Type 0} (put : X → List Node → List Node) (is_none : (x : X) (rest : List Node) → list_all is_untailed rest ≡ true → list_all is_untailed (put x rest) ≡ true) where
-  bracket_untailed : (es : List (Listed (Element X))) (o : Option (Element X)) (rest : List Node) → list_all is_untailed rest ≡ true
-      → list_all is_untailed (each_of (listed_row unmarked (element_row unmarked put)) es (maybe (element_row unmarked put) o rest)) ≡ true
-  bracket_untailed [] None rest e = e
-  bracket_untailed [] (Some x) rest e = is_none x.value rest e
-  bracket_untailed (x ∷ es) o rest e = is_none x.item.value _ (bracket_untailed es o rest e)
-
-expr_none : (x : Expr) (rest : List Node) → list_all is_untailed rest ≡ true → list_all is_untailed (AnExpr x ∷ rest) ≡ true
-expr_none x rest e = e
-
-slot_none : (x : Slot) (rest : List Node) → list_all is_untailed rest ≡ true → list_all is_untailed (ASlot x ∷ rest) ≡ true
-slot_none x rest e = e
-
-made_untailed : (args : Option (Bracket Expr)) → list_all is_untailed (maybe (bracket_row unmarked nodes.expr) args []) ≡ true
-made_untailed None = refl
-made_untailed (Some b) = bracket_untailed nodes.expr expr_none b.front b.last [] refl
 
 module _ (tree : Tree) (h : IsInText (ABody tree.body)) where
   abbrev body : Node

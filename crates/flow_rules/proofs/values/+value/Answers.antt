@@ -16,7 +16,7 @@ value_of-returns-in-Name t c =
 pub value_of-returns-in-Paren : goal.value_of-returns-in-Paren
 value_of-returns-in-Paren t c =
     let facts = facts_in c.args.facts.now in
-    IfOk-weaker c.value_of.result _ _ (λ v e. e ∙ ap (value facts) c.get.ensures ∙ sym (ap (value facts) c.in-Paren.is ∙ at-Paren facts c.in-Paren.open c.in-Paren.inner c.in-Paren.close)) c.value_of.ensures
+    IfOk-weaker c.value_of.result _ _ (λ v e. e ∙ ap (value facts) c.get.ensures ∙ sym (ap (value facts) c.in-Paren.is ∙ at-Paren facts c.in-Paren.«open» c.in-Paren.inner c.in-Paren.close)) c.value_of.ensures
 
 pub value_of-returns-in-Fun : goal.value_of-returns-in-Fun
 value_of-returns-in-Fun t c =
