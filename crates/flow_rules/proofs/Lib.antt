@@ -6,4 +6,6 @@ pub mod Order
 pub mod Places
 pub mod RuleLemmas
 pub mod SortedLemmas
+pub mod Untailed
 pub mod ValueLemmas
+pub mod ValueTexts
