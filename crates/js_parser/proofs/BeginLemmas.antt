@@ -185,11 +185,11 @@ in_pattern (Pattern-F.Member chain) each p rest r = each.0 p _ r
 in_pattern (Pattern-F.«Pattern::Paren» begin inner end) each p rest r = kind_first p begin kinds.LeftParen _ refl r
 
 in_node : (n : Node) → AllByRecursion Begins (parts n) → Begins n
-in_node (AnExpr x) each p rest r =
+in_node (AnExpr x) each = λ p rest r.
     let e = expr_line x rest in
     subst (Front begins_expr p) (sym e) (past_musts begins_expr p (expr_musts (expr_layer (out-Expr x))) (expr_row seen_lines (out-Expr x) rest) (subst (λ (ps : List Piece). Reads p ps) e r) (λ s. in_expr (out-Expr x) each p rest s))
 in_node (AFunction x) each = function_begins x
-in_node (APattern x) each p rest r =
+in_node (APattern x) each = λ p rest r.
     let e = pattern_line x rest in
     subst (Front begins_expr p) (sym e) (in_pattern (out-Pattern x) each p rest (subst (λ (ps : List Piece). Reads p ps) e r))
 in_node _ each = tt

@@ -20,7 +20,7 @@ use Rattle.js_tree.specs.Lexing.{Place}
 use Rattle.js_tree.specs.Pieces.{Piece, Tok, Must}
 use Rattle.js_tree.specs.Spelling.{expr, function, pattern, slot, stmt, stmts_height, tallest_of}
 use Rattle.js_tree.specs.Spelling.Functions.{function_musts, function_name, function_row, parameter_fits}
-use Rattle.js_tree.specs.Spelling.Nodes.{Seen, all_within, musts, passes, pieces, unmarked}
+use Rattle.js_tree.specs.Spelling.Nodes.{Seen, all_within, musts, passes, pieces, unmarked, stands}
 use Rattle.js_tree.specs.Spelling.Rows.{bracket_row, each_of, element_row, may_mark}
 use Rattle.js_tree.specs.TokenKinds.{is}
 use Rattle.js_tree.proofs.Folds.{layer-Keyword, map_block, map_bracket, map_element, map_listed, map_maybe}
@@ -76,7 +76,7 @@ parameter_view p x rest good r = by_dots x.dots x.value refl good r
 
     by_dots : (dots : Option Token) (value : Slot) → x ≡ record { dots = dots; value = value } → fits (record { dots = dots; value = value }) ≡ true → Reads p (parameter_line (record { dots = dots; value = value }) rest) → ParameterView p x rest
     by_dots None value same good r =
-        let ok = four _ _ _ _ good in
+        let ok = four false (stands DECLARED (slot value)) (slot value).is_target (is_some (slot value).name) good in
         let v = slot_view p value rest ok.1 r in
         by_init value v.name v.init (sym v.target ∙ ok.2) v.node v.read v.height same
     by_dots (Some t) value same good r = absurd (true≢false (sym good))

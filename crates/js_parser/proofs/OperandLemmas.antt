@@ -74,3 +74,22 @@ goes_no_further rank s list m is other x rest r = other (sym (is.all x.mark r.0 
 pub some_pushed : {A : Type 0} (xs : List A) (x : A) → is_empty (xs ++ x ∷ []) ≡ false
 some_pushed [] x = refl
 some_pushed (y ∷ ys) x = refl
+
+-- the first of the operands
+pub none_first : (rank s room : ℕ) → IsListRank rank → (m : Place) → IsStrength m s → (s ≡ rank + 1 → ⊥) → (x : Tall (List (Further Expr))) (rest : List Piece) → OperandsAt rank room x
+    → Reads m (each_of (further_line rank) x.node rest) → ⊥
+none_first rank s room list m is other x rest at r = by_list x.node at.some r
+  where
+    by_list : (xs : List (Further Expr)) → is_empty xs ≡ false → Reads m (each_of (further_line rank) xs rest) → ⊥
+    by_list [] e r = true≢false e
+    by_list (y ∷ ys) e r = goes_no_further rank s list m is other y (each_of (further_line rank) ys rest) r
+
+pub by_first : {Q : Type 0} (rank room : ℕ) → IsListRank rank → (m : Place) (x : Tall (List (Further Expr))) (rest : List Piece) → OperandsAt rank room x → Stops rank rest
+    → Reads m (each_of (further_line rank) x.node rest)
+    → ((y : Further Expr) (more : List Piece) → Reads m (further_line rank y more) → IsOperand rank room y → Stops (rank + 1) more → Q) → Q
+unfolding AllOf
+by_first {Q} rank room list m x rest at s r use_it = by_list x.node at.some (operands_of rank room x at) r
+  where
+    by_list : (xs : List (Further Expr)) → is_empty xs ≡ false → AllOf (IsOperand rank room) xs → Reads m (each_of (further_line rank) xs rest) → Q
+    by_list [] e a r = absurd (true≢false e)
+    by_list (y ∷ ys) e a r = use_it y (each_of (further_line rank) ys rest) r a.0 (operand_stops rank list ys rest s)

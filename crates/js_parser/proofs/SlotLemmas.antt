@@ -48,7 +48,7 @@ both true b e = (refl, e)
 both false b e = absurd (true≢false (sym e))
 
 -- what is seen of a name and what it is given
-named : Token → Option (Init Expr) → Seen
+unfoldable pub named : Token → Option (Init Expr) → Seen
 named name init = slot_step (record { target = pattern_step (Pattern-F.«Pattern::Name» name); init = map_maybe (map_init expr) init })
 
 named_height : (name : Token) (init : Option (Init Expr)) → (named name init).height ≡ max 1 (init_height init)
@@ -93,8 +93,8 @@ slot_view p x rest good r = by_target (out-Pattern (out-Slot x).target) refl
 
     low : (l : PatternLayer) → out-Pattern target ≡ l → (pattern target).rank ≡ 1 → SlotView p x rest
     low l e rank =
-        let whole = both _ _ (sym (ap (stands DECLARED) (at-Slot x)) ∙ good) in
-        absurd (true≢false (sym whole.1 ∙ ap (λ (n : ℕ). nat_le DECLARED n) rank))
+        let whole = both (slot x).is_sound (nat_le DECLARED (slot x).rank) good in
+        absurd (true≢false (sym whole.1 ∙ ap (λ (n : ℕ). nat_le DECLARED n) (ap (λ (t : Seen). t.rank) (at-Slot x) ∙ rank)))
 
     by_target : (l : PatternLayer) → out-Pattern target ≡ l → SlotView p x rest
     by_target (Pattern-F.«Pattern::Name» name) f = record {

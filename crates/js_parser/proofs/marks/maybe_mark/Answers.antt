@@ -14,7 +14,7 @@ returns-then-not-are_same c = record {
     found = ((λ rest r. r), tt);
     only = λ o rest r any s.
         let e = mark_none c.args.kind c.requires.plain _ _ c.kind.ensures (sym c.are_same.ensures ∙ c.if-not-are_same.true) o rest r in
-        (sym e, subst (λ (z : Option Token). Reads _ (may_mark pieces c.args.kind z rest)) e r);
+        (sym e, subst (λ (z : Option Token). Reads c.args.reader.now (may_mark pieces c.args.kind z rest)) e r);
     moves = passes_none _;
     shorter = omega arith;
   };
