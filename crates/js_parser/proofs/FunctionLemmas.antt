@@ -20,6 +20,7 @@ use Rattle.js_tree.specs.Lexing.{Place}
 use Rattle.js_tree.specs.Pieces.{Piece, Tok, Must}
 use Rattle.js_tree.specs.Spelling.{expr, function, pattern, slot, stmt, stmts_height, tallest_of}
 use Rattle.js_tree.specs.Spelling.Functions.{function_musts, function_name, function_row, parameter_fits}
+use Rattle.js_tree.specs.Spelling.Patterns.{DECLARED}
 use Rattle.js_tree.specs.Spelling.Nodes.{Seen, all_within, musts, passes, pieces, unmarked, stands}
 use Rattle.js_tree.specs.Spelling.Rows.{bracket_row, each_of, element_row, may_mark}
 use Rattle.js_tree.specs.TokenKinds.{is}

@@ -16,13 +16,14 @@ use Rattle.js_tree.specs.Lexing.{Place}
 use Rattle.js_tree.specs.Operators.{begins_plain, on_line}
 use Rattle.js_tree.specs.Pieces.{Piece, Tok, Must, Holds, first as first_of, kind}
 use Rattle.js_tree.specs.Spelling.{expr, function, slot, stmt, stmts_height, tallest_of}
-use Rattle.js_tree.specs.Spelling.Nodes.{Seen, unmarked, stands, all_further}
+use Rattle.js_tree.specs.Spelling.Nodes.{Seen, unmarked, stands, all_further, musts}
+use Rattle.js_tree.specs.Spelling.Statements.{stmt_musts, stmt_row}
 use Rattle.js_tree.specs.Spelling.Patterns.{DECLARED}
 use Rattle.js_tree.specs.Spelling.Rows.{each_of, further_row}
 use Rattle.js_tree.specs.TokenKinds.{is}
 use Rattle.js_tree.proofs.Folds.{map_further}
 use Rattle.js_tree.proofs.KindLemmas.{every, is_same}
-use Rattle.js_tree.proofs.SpellingLemmas.{at_stmt, stmt_line_at}
+use Rattle.js_tree.proofs.SpellingLemmas.{at_stmt, stmt_layer, stmt_line_at, seen_lines}
 use Rattle.js_tokens.proofs.PieceLemmas.{seen}
 use Rattle.js_tokens.specs.Ahead.{Blind, IsNextKind, IsNextLine, reads}
 use Rattle.js_tokens.specs.Pieces.{Reads, AllHold}
@@ -149,9 +150,12 @@ record Viewed (p : Place) (x : Stmt) (rest : List Piece) (k : TokenKind) : Type 
   view : ViewOf sort p x rest
   leads : statement_of k ≡ sort
 
+stmt_at : (p : Place) (x : Stmt) (rest : List Piece) (l : StmtLayer) → out-Stmt x ≡ l → Reads p (stmt_line x rest) → Reads p (musts (stmt_musts (stmt_layer l)) (stmt_row seen_lines l rest))
+stmt_at p x rest l e r = subst (λ (ps : List Piece). Reads p ps) (stmt_line_at x l e rest) r
+
 viewed : (p : Place) (x : Stmt) (rest : List Piece) (k : TokenKind) → IsNextKind p k → Reads p (stmt_line x rest) → (l : StmtLayer) → out-Stmt x ≡ l → Viewed p x rest k
 viewed p x rest k next r (Stmt-F.Plain value (Some semi)) e =
-    let m : Reads p _ = subst (λ (ps : List Piece). Reads p ps) (stmt_line_at x (Stmt-F.Plain value (Some semi)) e rest) r in
+    let m = stmt_at p x rest (Stmt-F.Plain value (Some semi)) e r in
     record {
       sort = sorts.Plain;
       view = record {
@@ -165,10 +169,10 @@ viewed p x rest k next r (Stmt-F.Plain value (Some semi)) e =
       leads = sort_plain p k next _ (expr_begins value p _ m.1.1.1) m.1.1.0;
     }
 viewed p x rest k next r (Stmt-F.Plain value None) e =
-    let m : Reads p _ = subst (λ (ps : List Piece). Reads p ps) (stmt_line_at x (Stmt-F.Plain value None) e rest) r in
+    let m = stmt_at p x rest (Stmt-F.Plain value None) e r in
     absurd (true≢false (sym m.1.0))
 viewed p x rest k next r (Stmt-F.Vars word first others (Some semi)) e =
-    let m : Reads p _ = subst (λ (ps : List Piece). Reads p ps) (stmt_line_at x (Stmt-F.Vars word first others (Some semi)) e rest) r in
+    let m = stmt_at p x rest (Stmt-F.Vars word first others (Some semi)) e r in
     record {
       sort = sorts.Var;
       view = record {
@@ -185,7 +189,7 @@ viewed p x rest k next r (Stmt-F.Vars word first others (Some semi)) e =
       leads = sort_word kinds.Var refl p k next word _ m.1.1.1;
     }
 viewed p x rest k next r (Stmt-F.Vars word first others None) e =
-    let m : Reads p _ = subst (λ (ps : List Piece). Reads p ps) (stmt_line_at x (Stmt-F.Vars word first others None) e rest) r in
+    let m = stmt_at p x rest (Stmt-F.Vars word first others None) e r in
     absurd (true≢false (sym m.1.1.0))
 viewed p x rest k next r (Stmt-F.Return word value (Some semi)) e =
     let m : Reads p _ = subst (λ (ps : List Piece). Reads p ps) (return_line x word value semi e rest) r in
@@ -203,10 +207,10 @@ viewed p x rest k next r (Stmt-F.Return word value (Some semi)) e =
       leads = sort_word kinds.Return refl p k next word _ m.1.1;
     }
 viewed p x rest k next r (Stmt-F.Return word value None) e =
-    let m : Reads p _ = subst (λ (ps : List Piece). Reads p ps) (stmt_line_at x (Stmt-F.Return word value None) e rest) r in
+    let m = stmt_at p x rest (Stmt-F.Return word value None) e r in
     absurd (true≢false (sym m.1.0))
 viewed p x rest k next r (Stmt-F.«Stmt::Fun» f) e =
-    let m : Reads p _ = subst (λ (ps : List Piece). Reads p ps) (stmt_line_at x (Stmt-F.«Stmt::Fun» f) e rest) r in
+    let m = stmt_at p x rest (Stmt-F.«Stmt::Fun» f) e r in
     record {
       sort = sorts.Function;
       view = record {
@@ -247,7 +251,9 @@ plain_made p value semi rest good all r =
     subst (λ (ps : List Piece). Reads p ps) (sym (stmt_line_at _ (Stmt-F.Plain value (Some semi)) (made.outs-Plain value (Some semi)) rest)) (good, (refl, (holds_from begins_plain p _ all r, r)))
 
 pub plain_tall : (value : Expr) (semi : Token) → (stmt (made.Plain value (Some semi))).height ≡ (expr value).height + 1
-plain_tall value semi = ap (λ (t : Seen). t.height) (at_stmt _ (Stmt-F.Plain value (Some semi)) (made.outs-Plain value (Some semi)))
+plain_tall value semi =
+    let e : (stmt (made.Plain value (Some semi))).height ≡ max (expr value).height 0 + 1 = ap (λ (t : Seen). t.height) (at_stmt _ (Stmt-F.Plain value (Some semi)) (made.outs-Plain value (Some semi))) in
+    omega (arith, e)
 
 pub vars_made : (p : Place) (word : Token) (first : Slot) (others : List (Further Slot)) (semi : Token) (rest : List Piece) → stands DECLARED (slot first) ≡ true
     → list_all (λ y. stands DECLARED (slot y.item)) others ≡ true → Reads p (Tok word (is kinds.Var) ∷ slot_line first (slots_line others (Tok semi (is kinds.Semicolon) ∷ rest)))
@@ -271,7 +277,9 @@ pub fun_made : (p : Place) (f : Function) (rest : List Piece) → is_some (funct
 fun_made p f rest named r = subst (λ (ps : List Piece). Reads p ps) (sym (stmt_line_at _ (Stmt-F.«Stmt::Fun» f) (made.outs-Fun f) rest)) (named, r)
 
 pub fun_tall : (f : Function) → (stmt (made.Fun f)).height ≡ (function f).height + 1
-fun_tall f = ap (λ (t : Seen). t.height) (at_stmt _ (Stmt-F.«Stmt::Fun» f) (made.outs-Fun f))
+fun_tall f =
+    let e : (stmt (made.Fun f)).height ≡ max (function f).height 0 + 1 = ap (λ (t : Seen). t.height) (at_stmt _ (Stmt-F.«Stmt::Fun» f) (made.outs-Fun f)) in
+    omega (arith, e)
 
 -- WHAT A FUNCTION GIVES
 

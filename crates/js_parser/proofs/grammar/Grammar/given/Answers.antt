@@ -24,7 +24,7 @@ returns-then-are_same g c = record {
     only = λ x rest r at s.
         let e = given_none _ _ c.kind.ensures (sym c.are_same.ensures ∙ c.if-are_same.true) x.node rest r in
         let h : 0 ≡ x.height = sym (at.height ∙ ap given_height e) in
-        ((λ i. record { node = sym e i; height = h i }), subst (λ (o : Option Expr). Reads _ (given_line o rest)) e r);
+        ((λ i. record { node = sym e i; height = h i }), subst (λ (o : Option Expr). Reads c.args.reader.now (given_line o rest)) e r);
     moves = passes_none _;
     shorter = omega arith;
   };

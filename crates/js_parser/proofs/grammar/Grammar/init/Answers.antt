@@ -29,7 +29,7 @@ returns-then-not-are_same g c = record {
     only = λ x rest r at s.
         let e = init_none _ _ c.kind.ensures (sym c.are_same.ensures ∙ c.if-not-are_same.true) x.node rest r in
         let h : 0 ≡ x.height = sym (at.height ∙ ap init_height e) in
-        ((λ i. record { node = sym e i; height = h i }), subst (λ (o : Option (Init Expr)). Reads _ (init_line o rest)) e r);
+        ((λ i. record { node = sym e i; height = h i }), subst (λ (o : Option (Init Expr)). Reads c.args.reader.now (init_line o rest)) e r);
     moves = passes_none _;
     shorter = omega arith;
   };
