@@ -150,12 +150,12 @@ record Viewed (p : Place) (x : Stmt) (rest : List Piece) (k : TokenKind) : Type 
   view : ViewOf sort p x rest
   leads : statement_of k ≡ sort
 
-stmt_at : (p : Place) (x : Stmt) (rest : List Piece) (l : StmtLayer) → out-Stmt x ≡ l → Reads p (stmt_line x rest) → Reads p (musts (stmt_musts (stmt_layer l)) (stmt_row seen_lines l rest))
-stmt_at p x rest l e r = subst (λ (ps : List Piece). Reads p ps) (stmt_line_at x l e rest) r
+row_at : (p : Place) (x : Stmt) (rest : List Piece) (l : StmtLayer) → out-Stmt x ≡ l → Reads p (stmt_line x rest) → Reads p (musts (stmt_musts (stmt_layer l)) (stmt_row seen_lines l rest))
+row_at p x rest l e r = subst (λ (ps : List Piece). Reads p ps) (stmt_line_at x l e rest) r
 
 viewed : (p : Place) (x : Stmt) (rest : List Piece) (k : TokenKind) → IsNextKind p k → Reads p (stmt_line x rest) → (l : StmtLayer) → out-Stmt x ≡ l → Viewed p x rest k
 viewed p x rest k next r (Stmt-F.Plain value (Some semi)) e =
-    let m = stmt_at p x rest (Stmt-F.Plain value (Some semi)) e r in
+    let m = row_at p x rest (Stmt-F.Plain value (Some semi)) e r in
     record {
       sort = sorts.Plain;
       view = record {
@@ -164,15 +164,15 @@ viewed p x rest k next r (Stmt-F.Plain value (Some semi)) e =
         node = sym (roll-out-Stmt x) ∙ ap roll-Stmt e ∙ made.rolls-Plain value (Some semi);
         good = m.0;
         read = m.1.1.1;
-        height = ap (λ (t : Seen). t.height) (at_stmt x (Stmt-F.Plain value (Some semi)) e);
+        height = let h : (stmt x).height ≡ max (expr value).height 0 + 1 = ap (λ (t : Seen). t.height) (at_stmt x (Stmt-F.Plain value (Some semi)) e) in omega (arith, h);
       };
       leads = sort_plain p k next _ (expr_begins value p _ m.1.1.1) m.1.1.0;
     }
 viewed p x rest k next r (Stmt-F.Plain value None) e =
-    let m = stmt_at p x rest (Stmt-F.Plain value None) e r in
+    let m = row_at p x rest (Stmt-F.Plain value None) e r in
     absurd (true≢false (sym m.1.0))
 viewed p x rest k next r (Stmt-F.Vars word first others (Some semi)) e =
-    let m = stmt_at p x rest (Stmt-F.Vars word first others (Some semi)) e r in
+    let m = row_at p x rest (Stmt-F.Vars word first others (Some semi)) e r in
     record {
       sort = sorts.Var;
       view = record {
@@ -189,10 +189,11 @@ viewed p x rest k next r (Stmt-F.Vars word first others (Some semi)) e =
       leads = sort_word kinds.Var refl p k next word _ m.1.1.1;
     }
 viewed p x rest k next r (Stmt-F.Vars word first others None) e =
-    let m = stmt_at p x rest (Stmt-F.Vars word first others None) e r in
+    let m = row_at p x rest (Stmt-F.Vars word first others None) e r in
     absurd (true≢false (sym m.1.1.0))
 viewed p x rest k next r (Stmt-F.Return word value (Some semi)) e =
-    let m : Reads p _ = subst (λ (ps : List Piece). Reads p ps) (return_line x word value semi e rest) r in
+    let m : Reads p (Must (given_stands value) ∷ Must true ∷ Tok word (is kinds.Return) ∷ given_line value (Tok semi (is kinds.Semicolon) ∷ rest)) =
+        subst (λ (ps : List Piece). Reads p ps) (return_line x word value semi e rest) r in
     record {
       sort = sorts.Return;
       view = record {
@@ -207,10 +208,10 @@ viewed p x rest k next r (Stmt-F.Return word value (Some semi)) e =
       leads = sort_word kinds.Return refl p k next word _ m.1.1;
     }
 viewed p x rest k next r (Stmt-F.Return word value None) e =
-    let m = stmt_at p x rest (Stmt-F.Return word value None) e r in
+    let m = row_at p x rest (Stmt-F.Return word value None) e r in
     absurd (true≢false (sym m.1.0))
 viewed p x rest k next r (Stmt-F.«Stmt::Fun» f) e =
-    let m = stmt_at p x rest (Stmt-F.«Stmt::Fun» f) e r in
+    let m = row_at p x rest (Stmt-F.«Stmt::Fun» f) e r in
     record {
       sort = sorts.Function;
       view = record {
@@ -218,7 +219,7 @@ viewed p x rest k next r (Stmt-F.«Stmt::Fun» f) e =
         node = sym (roll-out-Stmt x) ∙ ap roll-Stmt e ∙ made.rolls-Fun f;
         named = m.0;
         read = m.1;
-        height = ap (λ (t : Seen). t.height) (at_stmt x (Stmt-F.«Stmt::Fun» f) e);
+        height = let h : (stmt x).height ≡ max (function f).height 0 + 1 = ap (λ (t : Seen). t.height) (at_stmt x (Stmt-F.«Stmt::Fun» f) e) in omega (arith, h);
       };
       leads = ap statement_of (is_same kinds.Function k (front_told (is kinds.Function) blind_function p _ k next (function_begins f p rest m.1)));
     }
