@@ -1,3 +1,4 @@
+use Rattle.js_tokens.specs.declared.fault.TokenFault.TheVariants as fault
 use Rattle.std.proofs.Common.{◌≡◌, ◌<◌, ◌≤◌, ◌+◌, ◌-◌, ℕ, max, refl, sym, ap, ◌∙◌, subst, arith, List, [], ◌∷◌, ◌++◌, Option, Some, None, is_some, false, true}
 use Rattle.js_tree.specs.Lexing.{Place}
 use Rattle.js_tree.specs.Pieces.{Piece, Onto}
@@ -11,7 +12,7 @@ use Rattle.js_tree.specs.declared.token_kind.TokenKind.TheVariants as kinds
 use Rattle.js_tree.specs.declared.tree.Slot.{Slot}
 use Rattle.js_tokens.specs.Ahead.{IsNextKind}
 use Rattle.js_parser.proofs.BeginLemmas.{other_told, with_mark}
-use Rattle.js_parser.proofs.BracketLemmas.{Goes, Within, both_not, closing, comma_refused, inside, inside_height, item_refused, not_both, puts_height, within_all, within_more}
+use Rattle.js_parser.proofs.BracketLemmas.{Goes, Within, both_not, closing, comma_refused, inside, inside_height, item_refused, not_both, puts_height, within_all, within_more, within_none}
 use Rattle.js_parser.proofs.FunctionLemmas.{IsParameter, good_parameters, no_parameter, parameter_at, parameter_height, parameter_line, parameters_good, parameters_tall, tall_parameter}
 use Rattle.js_parser.proofs.PlaceLemmas.{passes_none, passes_on}
 use Rattle.js_parser.proofs.ReadLemmas.{want, failed}
@@ -108,3 +109,14 @@ returns c =
         shorter = omega (arith, c.in_ok-open.ensures.shorter, c.parameters.invariant.shorter, c.in_ok-close.ensures.shorter);
       };
     }
+
+pub parameters-init : goal.parameters-init
+parameters-init c = record {
+  within = subst (λ (front : List (Listed (Element Slot))). Within parameter_line (IsParameter c.args.room) (λ y ps. Unit {0}) c.mark.new.reader front None c.mark.new.reader) (sym c.new-front.ensures)
+      (within_none parameter_line (IsParameter c.args.room) (λ y ps. Unit {0}) c.mark.new.reader);
+  height = sym (ap (λ (front : List (Listed (Element Slot))). inside_height parameter_height front None) c.new-front.ensures);
+  shorter = omega arith;
+}
+
+pub returns-in_err-put : goal.returns-in_err-put
+returns-in_err-put c = record { reads = failed _ _ _ _ c.args.reader.now _ fault.OutOfMemory _ (passes_none _) tt (λ x rest r at s. tt) c.from_residual-in_err-put.ensures.1 }
