@@ -7,6 +7,7 @@
 #![tactic(auto)]
 
 mod calls;
+mod copies;
 mod extraction;
 mod facts;
 mod flows;
