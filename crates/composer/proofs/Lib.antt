@@ -1,6 +1,7 @@
 pub mod BeginLemmas
 pub mod EdgeLemmas
 pub mod LeastSolution
+pub mod LinkLemmas
 pub mod Members
 pub mod NumberLemmas
 pub mod OneList
@@ -9,6 +10,9 @@ pub mod PlaceLemmas
 pub mod Renamed
 pub mod RoomLemmas
 pub mod RowLemmas
+pub mod SeenValues
+pub mod SetLemmas
+pub mod SizeLemmas
 pub mod SolvedLemmas
 pub mod SpreadLemmas
 pub mod StepLemmas

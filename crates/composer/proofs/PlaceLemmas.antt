@@ -5,6 +5,7 @@ use Rattle.std.specs.List.{enumerate_from}
 use Rattle.std.proofs.lemmas.Bool.{eq-eqb, ne_eqb}
 use Rattle.std.proofs.lemmas.List.{map-append, length-map, get_or_append_left, get_or-append_right, get_or_past, length-append}
 use Rattle.std.proofs.lemmas.List.FromFn.{length-enumerate_from}
+use Rattle.std.proofs.lemmas.List.Sums.{sum_by-cons}
 use Rattle.js_scopes.specs.declared.function.FunctionInfo.{FunctionInfo}
 use Rattle.flow_rules.specs.Constraints.{ModuleConstraints}
 use Rattle.composer.specs.declared.application.Link.{Link}
@@ -14,9 +15,10 @@ use Rattle.composer.specs.declared.application.Value.TheVariants.{Fun, Native}
 use Rattle.composer.specs.declared.system.Callable.{Callable}
 use Rattle.composer.specs.Application.{callable_of, system_of}
 use Rattle.composer.specs.Numbers.{value_at}
+use Rattle.composer.specs.Graphs.{function_count}
 use Rattle.composer.specs.Solved.{HasOneNumber}
 
-abbrev functions_from : ℕ → List ModuleConstraints → List (Callable ModuleVertex Value)
+abbrev pub functions_from : ℕ → List ModuleConstraints → List (Callable ModuleVertex Value)
 functions_from n modules = flat_map (λ (m, c). map (callable_of m) (enumerate_from 0 c.functions)) (enumerate_from n modules)
 
 abbrev values_from : ℕ → List ModuleConstraints → List Value
@@ -88,3 +90,11 @@ has_one_number modules links i j li lj e = sym (number_back 0 modules i li) ∙ 
 
 pub native_number : (modules : List ModuleConstraints) (links : List Link) → Native ≡ value_at (system_of modules links) (length (system_of modules links).functions)
 native_number modules links = sym (get_or_past (values_from 0 modules) (length (functions_from 0 modules)) Native (omega (arith, length-map (functions_from 0 modules) (λ (f : Callable ModuleVertex Value). f.value))))
+
+-- so many functions has the system of the modules from number n on
+pub count_from : (n : ℕ) (modules : List ModuleConstraints) → length (functions_from n modules) ≡ function_count modules
+count_from n [] = refl
+count_from n (c ∷ cs) =
+    length-append (map (callable_of n) (enumerate_from 0 c.functions)) (functions_from (n + 1) cs)
+    ∙ (λ i. (length-map (enumerate_from 0 c.functions) (callable_of n) ∙ length-enumerate_from 0 c.functions) i + count_from (n + 1) cs i)
+    ∙ sym (sum_by-cons (λ (d : ModuleConstraints). length d.functions) c cs)

@@ -1,12 +1,12 @@
 -- From numbers to the vertices and values of an application, and to its edges.
-use Rattle.std.proofs.Common.{◌≡◌, ℕ, zero, suc, ◌+◌, ◌<◌, ◌≤◌, ◌⊎◌, inl, inr, List, [], ◌∷◌, ◌++◌, length, map, get_or, refl, ap, sym, ◌∙◌, subst, arith, Some, None, take}
-use Rattle.std.proofs.lemmas.List.{length-map, take_more}
+use Rattle.std.proofs.Common.{◌≡◌, ℕ, zero, suc, ◌+◌, ◌<◌, ◌≤◌, ◌⊎◌, inl, inr, List, [], ◌∷◌, ◌++◌, length, map, get_or, refl, ap, sym, ◌∙◌, subst, arith, Some, None, take, drop}
+use Rattle.std.proofs.lemmas.List.{length-map, length-append, take_more, take_at, drop_at, drop_more, take-map, drop-map, get_or-map}
 use Rattle.std.specs.Prelude.{slice_get}
-use Rattle.std.specs.List.{enumerate_from}
+use Rattle.std.specs.List.{enumerate_from, flat_map}
 use Rattle.std.specs.Prelude.{Contains}
 use Rattle.std.specs.declared.cmp.Ordering.TheVariants.{Less}
 use Rattle.std.specs.List.Sorted.{IsStrictlySortedBy}
-use Rattle.std.proofs.lemmas.List.Elements.{All-contains, Contains-append_cases, Contains-append_left, Contains-append_right, Contains-push, Contains-push_cases}
+use Rattle.std.proofs.lemmas.List.Elements.{All-contains, All-get_or, All-take, All-drop, Contains-append_cases, Contains-append_left, Contains-append_right, Contains-push, Contains-push_cases}
 use Rattle.std.proofs.lemmas.Map.Keys.{Less-from_sorted}
 use Rattle.jam_base.specs.declared.edge.Edge.{Edge}
 use Rattle.js_scopes.specs.declared.site.SiteInfo.{SiteInfo}
@@ -14,6 +14,7 @@ use Rattle.composer.proofs.Members.{none, only, here, there, from_flat_map, into
 use Rattle.flow_rules.specs.Constraints.{ModuleConstraints}
 use Rattle.flow_rules.specs.declared.vertex.Vertex.TheVariants.{Elem}
 use Rattle.composer.specs.declared.application.ModuleVertex.{ModuleVertex}
+use Rattle.composer.specs.declared.application.Part.{Part}
 use Rattle.composer.specs.declared.application.Value.{Value}
 use Rattle.composer.specs.declared.application.Value.TheVariants.{Fun, Native}
 use Rattle.composer.specs.declared.system.CallSite.{CallSite}
@@ -22,9 +23,10 @@ use Rattle.composer.specs.Application.{at_module, of_each, site_of}
 use Rattle.composer.specs.CallEdges.{called_edges, edges_to, input_edges, site_edges}
 use Rattle.composer.specs.Numbered.{Below, HasValues, IsSiteIn, IsSystemIn, map_site, map_system}
 use Rattle.composer.specs.Numbers.{module_vertex_order, value_at, vertex_at}
+use Rattle.composer.specs.Parts.{lists_of}
 use Rattle.composer.specs.Rows.{Holds, IsSolution, row}
 use Rattle.composer.specs.Solution.{InSolution}
-use Rattle.composer.specs.Solved.{AddsEdges, AreSolved, HasOneNumber, IsEdgeAmong, IsEdgeAt, IsEdgeBelow, LeavesSite}
+use Rattle.composer.specs.Solved.{AddsEdges, AreNumbered, AreSolved, HasOneNumber, IsAmong, IsEdgeAmong, IsEdgeAt, IsEdgeBelow, LeavesSite}
 use Rattle.composer.specs.Solved.IsEdgeAt.{called, handed}
 use Rattle.composer.specs.Steps.{inputs}
 use Rattle.composer.proofs.NumberLemmas.{order_total}
@@ -132,23 +134,72 @@ module _ (a : System ModuleVertex Value) (vs : List ModuleVertex) (rows : List (
     all = λ e p. Contains-append_right xs (site_edges a rows m s n) e (site_all e p);
   }
 
--- some sites and one more
-pub among_more : (a : System ModuleVertex Value) (m : ℕ) (sites : List SiteInfo) (i : ℕ) (s : SiteInfo) (xs ys zs : List Edge) → i < length sites → get_or sites i s ≡ s → AddsEdges (IsEdgeAmong a m (take i sites)) xs ys → AddsEdges (IsEdgeAt a m s) ys zs → AddsEdges (IsEdgeAmong a m (take (i + 1) sites)) xs zs
-among_more a m sites i s xs ys zs lt at p q = AddsEdges-more (IsEdgeAmong a m (take i sites)) (IsEdgeAt a m s) (IsEdgeAmong a m (take (i + 1) sites)) xs ys zs p q earlier last split
+-- where sites have these numbers, so have those at the front, and those behind them
+pub numbered_split : (a : System ModuleVertex Value) (rows : List (List ℕ)) (xs ys : List (CallSite ModuleVertex)) (ns : List (CallSite ℕ)) → AreNumbered a rows (xs ++ ys) ns → (length xs ≤ length ns) × AreNumbered a rows xs (take (length xs) ns) × AreNumbered a rows ys (drop (length xs) ns)
+numbered_split a rows xs ys ns h = (
+  omega (arith, same_length, length-append xs ys),
+  record { vertices = h.vertices; solved = h.solved; names = sym (take-map F (length xs) ns) ∙ ap (take (length xs)) h.names ∙ take_at xs ys (length xs) refl; below = All-take P (length xs) ns h.below },
+  record { vertices = h.vertices; solved = h.solved; names = sym (drop-map F (length xs) ns) ∙ ap (drop (length xs)) h.names ∙ drop_at xs ys (length xs) refl; below = All-drop P (length xs) ns h.below },
+)
   where
-    longer : take (i + 1) sites ≡ take i sites ++ s ∷ []
-    longer = take_more sites i s lt ∙ (λ k. take i sites ++ at k ∷ [])
+    F : CallSite ℕ → CallSite ModuleVertex
+    F = map_site (vertex_at h.vertices)
 
-    earlier : (e : Edge) → IsEdgeAmong a m (take i sites) e → IsEdgeAmong a m (take (i + 1) sites) e
-    earlier e (t, c, h) = (t, subst (λ ts. Contains ts t) (sym longer) (Contains-append_left (take i sites) (s ∷ []) t c), h)
+    P : CallSite ℕ → Type 0
+    P = IsSiteIn (Below (length h.vertices))
 
-    last : (e : Edge) → IsEdgeAt a m s e → IsEdgeAmong a m (take (i + 1) sites) e
-    last e h = (s, subst (λ ts. Contains ts s) (sym longer) (Contains-push (take i sites) s), h)
+    same_length : length ns ≡ length (xs ++ ys)
+    same_length = sym (length-map ns F) ∙ ap length h.names
 
-    split : (e : Edge) → IsEdgeAmong a m (take (i + 1) sites) e → IsEdgeAmong a m (take i sites) e ⊎ IsEdgeAt a m s e
-    split e (t, c, h) = elim (Contains-push_cases (take i sites) s t (subst (λ ts. Contains ts t) longer c)) [
+-- the same of a module and those behind it
+pub numbered_module : (a : System ModuleVertex Value) (rows : List (List ℕ)) (parts : List Part) (m : ℕ) (part : Part) (ns : List (CallSite ℕ)) → m < length parts → get_or parts m part ≡ part
+    → AreNumbered a rows (flat_map (λ (i, c). map (site_of i) c.sites) (enumerate_from m (lists_of (drop m parts)))) ns
+    → (length part.summary.lists.sites ≤ length ns) × AreNumbered a rows (map (site_of m) part.summary.lists.sites) (take (length part.summary.lists.sites) ns)
+    × AreNumbered a rows (flat_map (λ (i, c). map (site_of i) c.sites) (enumerate_from (m + 1) (lists_of (drop (m + 1) parts)))) (drop (length part.summary.lists.sites) ns)
+numbered_module a rows parts m part ns lt is h =
+    let first : drop m parts ≡ part ∷ drop (m + 1) parts = drop_more parts m part lt ∙ ap (λ p. p ∷ drop (m + 1) parts) is in
+    let xs = map (site_of m) part.summary.lists.sites in
+    let ys = flat_map (λ (i, c). map (site_of i) c.sites) (enumerate_from (m + 1) (lists_of (drop (m + 1) parts))) in
+    let split = numbered_split a rows xs ys ns (subst (λ ps. AreNumbered a rows (flat_map (λ (i, c). map (site_of i) c.sites) (enumerate_from m (lists_of ps))) ns) first h) in
+    subst (λ k. (k ≤ length ns) × AreNumbered a rows xs (take k ns) × AreNumbered a rows ys (drop k ns)) (length-map part.summary.lists.sites (site_of m)) split
+
+-- there are as many numbered sites as sites
+pub numbered_count : (a : System ModuleVertex Value) (rows : List (List ℕ)) (m : ℕ) (sites : List SiteInfo) (ns : List (CallSite ℕ)) → AreNumbered a rows (map (site_of m) sites) ns → length ns ≡ length sites
+numbered_count a rows m sites ns h = sym (length-map ns (map_site (vertex_at h.vertices))) ∙ ap length h.names ∙ length-map sites (site_of m)
+
+-- the edges of one of the sites, by its numbers
+pub numbered_adds : (a : System ModuleVertex Value) (rows : List (List ℕ)) (m : ℕ) (sites : List SiteInfo) (ns : List (CallSite ℕ)) (k : ℕ) (s : SiteInfo) (n : CallSite ℕ) (xs : List Edge) → AreNumbered a rows (map (site_of m) sites) ns → k < length sites → get_or sites k s ≡ s → get_or ns k n ≡ n → AddsEdges (IsEdgeAt a m s) xs (xs ++ site_edges a rows m s n)
+numbered_adds a rows m sites ns k s n xs h lt is number_is = site_adds a h.vertices rows h.solved m s n names below xs
+  where
+    F : CallSite ℕ → CallSite ModuleVertex
+    F = map_site (vertex_at h.vertices)
+
+    within : k < length ns
+    within = omega (arith, lt, numbered_count a rows m sites ns h)
+
+    names : F n ≡ site_of m s
+    names = ap F (sym number_is) ∙ sym (get_or-map F ns k n (F n) within) ∙ ap (λ ss. get_or ss k (F n)) h.names ∙ get_or-map (site_of m) sites k s (F n) lt ∙ ap (site_of m) is
+
+    below : IsSiteIn (Below (length h.vertices)) n
+    below = subst (IsSiteIn (Below (length h.vertices))) number_is (All-get_or (IsSiteIn (Below (length h.vertices))) ns k n within h.below)
+
+-- some items and one more
+pub among_more : {X : Type 0} (P : X → Edge → Type 0) (items : List X) (i : ℕ) (x : X) (xs ys zs : List Edge) → i < length items → get_or items i x ≡ x → AddsEdges (IsAmong P (take i items)) xs ys → AddsEdges (P x) ys zs → AddsEdges (IsAmong P (take (i + 1) items)) xs zs
+among_more P items i x xs ys zs lt at p q = AddsEdges-more (IsAmong P (take i items)) (P x) (IsAmong P (take (i + 1) items)) xs ys zs p q earlier last split
+  where
+    longer : take (i + 1) items ≡ take i items ++ x ∷ []
+    longer = take_more items i x lt ∙ (λ k. take i items ++ at k ∷ [])
+
+    earlier : (e : Edge) → IsAmong P (take i items) e → IsAmong P (take (i + 1) items) e
+    earlier e (t, c, h) = (t, subst (λ ts. Contains ts t) (sym longer) (Contains-append_left (take i items) (x ∷ []) t c), h)
+
+    last : (e : Edge) → P x e → IsAmong P (take (i + 1) items) e
+    last e h = (x, subst (λ ts. Contains ts x) (sym longer) (Contains-push (take i items) x), h)
+
+    split : (e : Edge) → IsAmong P (take (i + 1) items) e → IsAmong P (take i items) e ⊎ P x e
+    split e (t, c, h) = elim (Contains-push_cases (take i items) x t (subst (λ ts. Contains ts t) longer c)) [
       | inl k ↦ inl (t, k, h)
-      | inr k ↦ inr (subst (λ x. IsEdgeAt a m x e) (sym k) h)
+      | inr k ↦ inr (subst (λ y. P y e) (sym k) h)
     ]
 
 -- some modules and one more
@@ -173,7 +224,7 @@ below_more a modules m c xs ys zs at p q = AddsEdges-more (IsEdgeBelow a modules
       | inr g ↦ (let same : d ≡ c = one_some d c (sym here' ∙ ap (slice_get modules) g ∙ at) in inr (subst (λ k. IsEdgeAmong a k c.sites e) g (subst (λ (x : ModuleConstraints). IsEdgeAmong a i x.sites e) same h)))
     ]
 
-enumerated : {X : Type 0} (n : ℕ) (xs : List X) (i : ℕ) (x : X) → slice_get xs i ≡ Some x → Contains (enumerate_from n xs) (n + i, x)
+pub enumerated : {X : Type 0} (n : ℕ) (xs : List X) (i : ℕ) (x : X) → slice_get xs i ≡ Some x → Contains (enumerate_from n xs) (n + i, x)
 enumerated n [] i x e = absurd (let k : None ≡ Some x = e in cc)
 enumerated n (y ∷ ys) zero x e =
     let same : y ≡ x = cc e in
@@ -182,7 +233,3 @@ enumerated n (y ∷ ys) zero x e =
 enumerated n (y ∷ ys) (suc i) x e =
     let k : n + 1 + i ≡ n + suc i = omega arith in
     there (n, y) (enumerate_from (n + 1) ys) (n + suc i, x) (subst (λ j. Contains (enumerate_from (n + 1) ys) (j, x)) k (enumerated (n + 1) ys i x e))
-
--- what a module has is among what each has
-pub part_of_each : {X : Type 0} (modules : List ModuleConstraints) (f : ℕ → ModuleConstraints → List X) (m : ℕ) (c : ModuleConstraints) (x : X) → slice_get modules m ≡ Some c → Contains (f m c) x → Contains (of_each modules f) x
-part_of_each modules f m c x e h = into_flat_map (λ (i, d). f i d) (enumerate_from 0 modules) (m, c) x (subst (λ j. Contains (enumerate_from 0 modules) (j, c)) (let z : 0 + m ≡ m = omega arith in z) (enumerated 0 modules m c e)) h

@@ -1,9 +1,7 @@
 -- The call edges of an application, by the values that stand in rows.
-use Rattle.std.specs.Prelude.{ℕ, ◌==◌, cond, List, [], ◌∷◌, flat_map, Option, Some, None, slice_get}
+use Rattle.std.specs.Prelude.{ℕ, List, [], ◌∷◌, flat_map}
 use Rattle.jam_base.specs.declared.edge.Edge.{Edge}
 use Rattle.js_scopes.specs.declared.site.SiteInfo.{SiteInfo}
-use Rattle.flow_rules.specs.declared.module.Require.{Require}
-use Rattle.flow_rules.specs.Constraints.{ModuleConstraints}
 use Rattle.composer.specs.declared.application.Link.{Link}
 use Rattle.composer.specs.declared.application.ModuleVertex.{ModuleVertex}
 use Rattle.composer.specs.declared.application.Value.{Value}
@@ -31,13 +29,6 @@ called_edges a rows m s n (Fun f) = edges_to m s (Fun f)
 abbrev pub site_edges : System ModuleVertex Value → List (List ℕ) → ℕ → SiteInfo → CallSite ℕ → List Edge
 site_edges a rows m s n = flat_map (λ t. called_edges a rows m s n (value_at a t)) (row rows n.callee)
 
--- the edge of a require that the link is of
-abbrev pub require_edges : Link → Require → List Edge
-require_edges link r = cond (r.offset == link.offset) (record { caller = record { «module» = link.module; function = r.holder }; offset = link.offset; callee = record { «module» = link.target; function = 0 } } ∷ []) []
-
-abbrev pub requires_at : Option ModuleConstraints → List Require
-requires_at None = []
-requires_at (Some c) = c.requires_
-
-abbrev pub link_edges : List ModuleConstraints → Link → List Edge
-link_edges modules link = flat_map (require_edges link) (requires_at (slice_get modules link.module))
+-- the edge of a link whose require this function holds
+abbrev pub link_edge : Link → ℕ → Edge
+link_edge link holder = record { caller = record { «module» = link.module; function = holder }; offset = link.offset; callee = record { «module» = link.target; function = 0 } }

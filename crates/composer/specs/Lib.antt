@@ -1,10 +1,13 @@
 pub mod Application
 pub mod CallEdges
 pub mod Edges
+pub mod Graphs
 pub mod Natives
 pub mod Numbered
 pub mod Numbers
+pub mod Parts
 pub mod Rows
+pub mod Sizes
 pub mod Solution
 pub mod Solved
 pub mod Steps

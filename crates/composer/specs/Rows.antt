@@ -1,6 +1,9 @@
 -- Sets of values as rows, one for each vertex.
-use Rattle.std.specs.Prelude.{ℕ, zero, suc, ◌+◌, ◌*◌, ◌<◌, ◌≤◌, ◌≡◌, ◌⊎◌, Bool, true, false, ◌||◌, ◌&&◌, cond, IsTrue, List, [], ◌++◌, length, map, slice_index_or, nat_eq, Contains}
+use Rattle.std.specs.Prelude.{ℕ, zero, suc, ◌+◌, ◌*◌, ◌<◌, ◌≤◌, ◌≡◌, ◌⊎◌, Bool, true, false, ◌||◌, ◌&&◌, cond, IsTrue, List, [], ◌++◌, length, map, slice_index_or, drop, nat_eq, Contains}
 use Rattle.std.specs.List.{list_any}
+use Rattle.std.specs.BTreeSet.{BTreeSet}
+use Rattle.std.specs.BTreeSet as tree
+use Rattle.std.specs.Ordering.{nat_cmp}
 use Rattle.composer.specs.declared.system.Arrow.{Arrow}
 use Rattle.composer.specs.declared.sweep.Placed.{Placed}
 use Rattle.composer.specs.declared.system.System.{System}
@@ -12,6 +15,14 @@ row rows v = slice_index_or rows v []
 -- whether the row has the value
 abbrev pub is_in : ℕ → List ℕ → Bool
 is_in t xs = list_any (λ x. nat_eq x t) xs
+
+-- how many values of a set are looked through one by one
+abbrev pub few_values : ℕ
+few_values = 16
+
+-- the tree has the values behind the first few
+abbrev pub IsIndexed : List ℕ → BTreeSet ℕ → Type 0
+IsIndexed values later = (x : ℕ) → tree.contains nat_cmp later x ≡ is_in x (drop few_values values)
 
 -- whether the vertex has the value
 abbrev pub has : List (List ℕ) → ℕ → ℕ → Bool

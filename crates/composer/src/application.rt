@@ -7,8 +7,9 @@ ghost use Rattle.std.proofs.lemmas.Cmp.{eq_by_cmp_equiv};
 ghost use Rattle.flow_rules.specs.Vertices.{vertex_key};
 ghost use Rattle.composer.specs.Numbers.{module_vertex_order};
 
+use flow_fold::Summary;
 use flow_rules::Vertex;
-use jam_base::FunctionRef;
+use jam_base::{FunctionRef, ModulePath};
 use std::cmp::Ordering;
 
 /// A value that can be called.
@@ -68,8 +69,15 @@ impl Ord for ModuleVertex {
     }
 }
 
+/// A module of an application: its path, and what is kept of it.
+#[derive(Debug, Drop)]
+pub struct Part {
+    pub path: ModulePath,
+    pub summary: Summary,
+}
+
 /// The require at this offset of the module gives what the target exports. Modules are given by their
-/// places in the list of modules.
+/// places in the list of parts.
 #[derive(Clone, Copy, Debug, PartialEq, Eq, Drop)]
 pub struct Link {
     pub module: u32,

@@ -6,26 +6,27 @@ ghost use Rattle.flow_rules.specs.Vertices.{is_shared};
 ghost use Rattle.composer.specs.Application as application;
 ghost use Rattle.composer.specs.Application.{native_places, of_each};
 ghost use Rattle.composer.specs.Natives.{native_names};
+ghost use Rattle.composer.specs.Parts.{lists_of};
 
-use crate::application::{Link, ModuleVertex, Value};
+use crate::application::{Link, ModuleVertex, Part, Value};
 use crate::numbers::MOST;
 use crate::system::{Arrow, CallSite, Callable, System};
-use flow_rules::{Constraints, Flow, Vertex};
+use flow_rules::{Flow, Vertex};
 use jam_base::{FunctionRef, List, OutOfMemory, Text};
 use js_scopes::{FunctionInfo, SiteInfo};
 use std::alloc::Global;
 
-/// The functions, sites and flows of all modules together, with the links as flows.
+/// The functions, sites and flows of all parts together, with the links as flows.
 pub(crate) fn system_of(
     alloc: Global,
-    modules: &[Constraints],
+    parts: &[Part],
     links: &[Link],
 ) -> Result<System<ModuleVertex, Value>, OutOfMemory>
-    ensures { IfOk result (λ system. system ≡ application.system_of modules.now links.now) }
+    ensures { IfOk result (λ system. system ≡ application.system_of (lists_of parts.now) links.now) }
 {
-    let functions = all_functions(alloc, modules)?;
-    let sites = all_sites(alloc, modules)?;
-    let flows = all_flows(alloc, modules, links)?;
+    let functions = all_functions(alloc, parts)?;
+    let sites = all_sites(alloc, parts)?;
+    let flows = all_flows(alloc, parts, links)?;
     let native_at = native_at(alloc)?;
     Ok(System {
         functions: List::of(functions),
@@ -39,16 +40,16 @@ pub(crate) fn system_of(
 
 fn all_functions(
     alloc: Global,
-    modules: &[Constraints],
+    parts: &[Part],
 ) -> Result<Vec<Callable<ModuleVertex, Value>>, OutOfMemory>
-    ensures { IfOk result (λ out. out.items ≡ of_each modules.now (λ m c. map (application.callable_of m) (enumerate_from 0 c.functions))) }
+    ensures { IfOk result (λ out. out.items ≡ of_each (lists_of parts.now) (λ m c. map (application.callable_of m) (enumerate_from 0 c.functions))) }
 {
-    if modules.len() > MOST {
+    if parts.len() > MOST {
         return Err(OutOfMemory);
     }
     let mut out = Vec::new(alloc);
-    for m in 0..modules.len() {
-        push_functions(alloc, &mut out, m as u32, modules[m].functions())?;
+    for m in 0..parts.len() {
+        push_functions(alloc, &mut out, m as u32, parts[m].summary.functions())?;
     }
     Ok(out)
 }
@@ -108,18 +109,15 @@ fn params_of(
     Ok(out)
 }
 
-fn all_sites(
-    alloc: Global,
-    modules: &[Constraints],
-) -> Result<Vec<CallSite<ModuleVertex>>, OutOfMemory>
-    ensures { IfOk result (λ out. out.items ≡ of_each modules.now (λ m c. map (application.site_of m) c.sites)) }
+fn all_sites(alloc: Global, parts: &[Part]) -> Result<Vec<CallSite<ModuleVertex>>, OutOfMemory>
+    ensures { IfOk result (λ out. out.items ≡ of_each (lists_of parts.now) (λ m c. map (application.site_of m) c.sites)) }
 {
-    if modules.len() > MOST {
+    if parts.len() > MOST {
         return Err(OutOfMemory);
     }
     let mut out = Vec::new(alloc);
-    for m in 0..modules.len() {
-        push_sites(alloc, &mut out, m as u32, modules[m].sites())?;
+    for m in 0..parts.len() {
+        push_sites(alloc, &mut out, m as u32, parts[m].summary.sites())?;
     }
     Ok(out)
 }
@@ -139,12 +137,8 @@ fn push_sites(
     Ok(())
 }
 
-/// A site of module m.
-pub(crate) fn site_of(
-    alloc: Global,
-    m: u32,
-    site: &SiteInfo,
-) -> Result<CallSite<ModuleVertex>, OutOfMemory>
+// A site of module m.
+fn site_of(alloc: Global, m: u32, site: &SiteInfo) -> Result<CallSite<ModuleVertex>, OutOfMemory>
     ensures { IfOk result (λ made. made ≡ application.site_of m site.now) }
 {
     let args = args_of(alloc, m, site.offset, site.part, site.args)?;
@@ -183,17 +177,17 @@ fn args_of(
 
 fn all_flows(
     alloc: Global,
-    modules: &[Constraints],
+    parts: &[Part],
     links: &[Link],
 ) -> Result<Vec<Arrow<ModuleVertex>>, OutOfMemory>
-    ensures { IfOk result (λ out. out.items ≡ of_each modules.now (λ m c. map (application.flow_of m) c.flows) ++ map application.link_flow links.now) }
+    ensures { IfOk result (λ out. out.items ≡ of_each (lists_of parts.now) (λ m c. map (application.flow_of m) c.flows) ++ map application.link_flow links.now) }
 {
-    if modules.len() > MOST {
+    if parts.len() > MOST {
         return Err(OutOfMemory);
     }
     let mut out = Vec::new(alloc);
-    for m in 0..modules.len() {
-        push_flows(alloc, &mut out, m as u32, modules[m].flows())?;
+    for m in 0..parts.len() {
+        push_flows(alloc, &mut out, m as u32, parts[m].summary.flows())?;
     }
     push_links(&mut out, links)?;
     Ok(out)

@@ -1,158 +1,138 @@
-//! The call edges of an application.
-ghost use Rattle.std.specs.Prelude.{◌≡◌, ◌≤◌, length, map, All, Contains, IfOk, OnOk};
-ghost use Rattle.std.specs.List.Sorted.{IsStrictlySortedBy};
+//! The call graph of an application.
+ghost use Rattle.std.specs.Prelude.{◌≡◌, ◌<◌, length, map, All, Contains, IfOk, OnOk};
 ghost use Rattle.composer.specs.Application as application;
 ghost use Rattle.composer.specs.Edges.{IsEdgeList};
-ghost use Rattle.composer.specs.Numbered.{IsSiteIn, IsSystemIn};
-ghost use Rattle.composer.specs.Numbers.{module_vertex_order, value_at};
-ghost use Rattle.composer.specs.Solved.{AddsEdges, AreSolved, HasOneNumber, IsEdgeAmong, IsEdgeAt, IsEdgeBelow};
+ghost use Rattle.composer.specs.Graphs.{AreValues, function_count};
+ghost use Rattle.composer.specs.Numbered.{Below, IsSiteIn, IsSystemIn, map_site};
+ghost use Rattle.composer.specs.Numbers.{value_at, vertex_at};
+ghost use Rattle.composer.specs.Parts.{AreByPath, AreLinks, IsNamed, lists_of};
+ghost use Rattle.composer.specs.Sizes.{size_limit, size_of};
+ghost use Rattle.composer.specs.Solved.{AddsEdges, AreNumbered, AreSolved, HasOneNumber, IsEdgeAmong, IsEdgeBelow};
 
-use crate::application::{Link, ModuleVertex, Value};
-use crate::build::{site_of, system_of};
+use crate::application::{Link, ModuleVertex, Part, Value};
+use crate::build::system_of;
 use crate::edges::{push_links, push_site};
-use crate::numbers::{MOST, numbered, numbered_site, vertices_of};
+use crate::graph::Graph;
+use crate::numbers::{MOST, Vertices, numbered};
 use crate::sets::Sets;
 use crate::sweep::solve;
-use crate::system::System;
-use flow_rules::Constraints;
-use jam_base::{Edge, List, OutOfMemory};
+use crate::system::{CallSite, System};
+use jam_base::{Edge, List, OutOfMemory, Steps};
 use js_scopes::SiteInfo;
 use std::alloc::Global;
-use std::marker::Model;
+use std::sync::ledger::Ledger;
 
-/// The call edges of an application, each once, by the caller's module, the offset, the callee and the
-/// caller.
-#[derive(Debug, Drop)]
-pub struct Graph {
-    edges: List<Edge>,
-}
-
-impl Model for Graph {
-    ghost use Rattle.std.specs.Prelude as prelude;
-    ghost use Rattle.jam_base.specs.declared.edge.Edge as edge;
-
-    ghost Value = { prelude.List edge.Edge };
-
-    ghost view = { λ g. g.edges };
-}
-
-impl Graph {
-    /// The edges.
-    pub fn edges(&self) -> &[Edge]
-        ensures { result.now ≡ self.now }
-    {
-        self.edges.as_slice()
-    }
-}
-
-/// The call edges of the modules with these constraints, where links say which module each require gives.
-/// Modules are given by their places.
-pub fn compose(alloc: Global, modules: &[Constraints], links: &[Link]) -> Result<Graph, OutOfMemory>
-    ensures edges { IfOk result (λ graph. IsEdgeList modules.now links.now graph) }
+/// The call graph of the parts, where links say which part each require gives. Modules are given by their
+/// places. The counter is for the work of the solver, which may take any number of steps.
+pub fn compose<L: Ledger>(
+    alloc: Global,
+    parts: &[Part],
+    links: &[Link],
+    steps: &mut Steps<L>,
+) -> Result<Graph, OutOfMemory>
+    requires paths { AreByPath parts.now }
+    requires links { AreLinks (lists_of parts.now) links.now }
+    requires size { size_of (lists_of parts.now) < size_limit }
+    ensures edges { IfOk result (λ graph. IsEdgeList (lists_of parts.now) links.now graph.edges) }
+    ensures functions { IfOk result (λ graph. graph.functions ≡ function_count (lists_of parts.now)) }
+    ensures values { IfOk result (λ graph. AreValues (lists_of parts.now) links.now graph.values) }
 {
-    let system = system_of(alloc, modules, links)?;
-    let vertices = vertices_of(alloc, &system)?;
-    let sets = solved(alloc, &system, vertices.as_slice())?;
-    let mut edges = Vec::new(alloc);
-    push_sites(
-        alloc,
-        &mut edges,
-        &system,
-        vertices.as_slice(),
-        &sets,
-        modules,
-    )?;
-    push_links(&mut edges, modules, links)?;
-    edges.sort()?;
-    edges.dedup();
-    Ok(Graph {
-        edges: List::of(edges),
-    })
+    let system = system_of(alloc, parts, links)?;
+    let vertices = Vertices::of(alloc, &system)?;
+    let Solution { sites, sets } = solved(alloc, &system, &vertices)?;
+    let edges = edges_of(alloc, &system, &sets, parts, links, sites.as_slice())?;
+    let System { functions, .. } = system;
+    Ok(Graph::of(edges, functions, vertices, sets))
+}
+
+// A solved system: the numbers of its sites, and the sets of what comes to its vertices.
+#[derive(Drop)]
+struct Solution {
+    sites: List<CallSite<u32>>,
+    sets: Sets,
 }
 
 // The solution of a system, in numbers.
 fn solved(
     alloc: Global,
     system: &System<ModuleVertex, Value>,
-    vertices: &[ModuleVertex],
-) -> Result<Sets, OutOfMemory>
-    requires sorted { IsStrictlySortedBy module_vertex_order vertices.now }
-    requires few { length vertices.now ≤ 4294967295 }
+    vertices: &Vertices,
+) -> Result<Solution, OutOfMemory>
     requires members { IsSystemIn (Contains vertices.now) system.now }
     requires native { system.now.native ≡ value_at system.now (length system.now.functions) }
     requires values { HasOneNumber system.now }
-    ensures { IfOk result (AreSolved system.now vertices.now) }
+    ensures solved { IfOk result (λ s. AreSolved system.now vertices.now s.sets) }
+    ensures names { IfOk result (λ s. map (map_site (vertex_at vertices.now)) s.sites ≡ system.now.sites) }
+    ensures below { IfOk result (λ s. All (IsSiteIn (Below (length vertices.now))) s.sites) }
 {
-    let numbered = numbered(alloc, vertices, system)?;
-    let sets = solve(alloc, &numbered, vertices.len() as u32)?;
-    Ok(sets)
+    let numbers = numbered(alloc, vertices, system)?;
+    let sets = solve(alloc, &numbers, vertices.count())?;
+    let System { sites, .. } = numbers;
+    Ok(Solution { sites, sets })
 }
 
-// Adds the edges of all sites.
-fn push_sites(
+// The call edges, in order and each once, where the sites have these numbers.
+fn edges_of(
     alloc: Global,
+    system: &System<ModuleVertex, Value>,
+    sets: &Sets,
+    parts: &[Part],
+    links: &[Link],
+    numbers: &[CallSite<u32>],
+) -> Result<Vec<Edge>, OutOfMemory>
+    requires system { system.now ≡ application.system_of (lists_of parts.now) links.now }
+    requires numbered { AreNumbered system.now sets.now (application.of_each (lists_of parts.now) (λ m c. map (application.site_of m) c.sites)) numbers.now }
+    requires named { All (IsNamed (lists_of parts.now)) links.now }
+    ensures { IfOk result (λ edges. IsEdgeList (lists_of parts.now) links.now edges.items) }
+{
+    let mut edges = Vec::new(alloc);
+    push_sites(&mut edges, system, sets, parts, numbers)?;
+    push_links(&mut edges, parts, links)?;
+    edges.sort()?;
+    edges.dedup();
+    Ok(edges)
+}
+
+// Adds the edges of all sites, whose vertices have these numbers.
+fn push_sites(
     out: &mut Vec<Edge>,
     system: &System<ModuleVertex, Value>,
-    vertices: &[ModuleVertex],
     sets: &Sets,
-    modules: &[Constraints],
+    parts: &[Part],
+    numbers: &[CallSite<u32>],
 ) -> Result<(), OutOfMemory>
-    requires sorted { IsStrictlySortedBy module_vertex_order vertices.now }
-    requires few { length vertices.now ≤ 4294967295 }
-    requires solved { AreSolved system.now vertices.now sets.now }
-    requires members { All (IsSiteIn (Contains vertices.now)) (application.of_each modules.now (λ m c. map (application.site_of m) c.sites)) }
-    ensures { OnOk result (AddsEdges (IsEdgeBelow system.now modules.now (length modules.now)) out.old.items out.new.items) }
+    requires { AreNumbered system.now sets.now (application.of_each (lists_of parts.now) (λ m c. map (application.site_of m) c.sites)) numbers.now }
+    ensures { OnOk result (AddsEdges (IsEdgeBelow system.now (lists_of parts.now) (length parts.now)) out.old.items out.new.items) }
 {
-    if modules.len() > MOST {
+    if parts.len() > MOST {
         return Err(OutOfMemory);
     }
-    for m in 0..modules.len() {
-        let sites = modules[m].sites();
-        push_sites_of(alloc, out, system, vertices, sets, m as u32, sites)?;
+    let mut rest = numbers;
+    for m in 0..parts.len() {
+        let sites = parts[m].summary.sites();
+        let (here, behind) = rest.split_at(sites.len());
+        push_sites_of(out, system, sets, m as u32, sites, here)?;
+        rest = behind;
     }
     Ok(())
 }
 
 // Adds the edges of the sites of module m.
 fn push_sites_of(
-    alloc: Global,
     out: &mut Vec<Edge>,
     system: &System<ModuleVertex, Value>,
-    vertices: &[ModuleVertex],
     sets: &Sets,
     m: u32,
     sites: &[SiteInfo],
+    numbers: &[CallSite<u32>],
 ) -> Result<(), OutOfMemory>
-    requires sorted { IsStrictlySortedBy module_vertex_order vertices.now }
-    requires few { length vertices.now ≤ 4294967295 }
-    requires solved { AreSolved system.now vertices.now sets.now }
-    requires members { All (IsSiteIn (Contains vertices.now)) (map (application.site_of m) sites.now) }
+    requires { AreNumbered system.now sets.now (map (application.site_of m) sites.now) numbers.now }
     ensures { OnOk result (AddsEdges (IsEdgeAmong system.now m sites.now) out.old.items out.new.items) }
 {
-    for site in sites {
-        push_site_of(alloc, out, system, vertices, sets, m, site)?;
+    for k in 0..sites.len() {
+        let site = &sites[k];
+        let number = &numbers[k];
+        push_site(out, system, sets, m, site, number)?;
     }
-    Ok(())
-}
-
-// Adds the edges of a site of module m.
-fn push_site_of(
-    alloc: Global,
-    out: &mut Vec<Edge>,
-    system: &System<ModuleVertex, Value>,
-    vertices: &[ModuleVertex],
-    sets: &Sets,
-    m: u32,
-    site: &SiteInfo,
-) -> Result<(), OutOfMemory>
-    requires sorted { IsStrictlySortedBy module_vertex_order vertices.now }
-    requires few { length vertices.now ≤ 4294967295 }
-    requires solved { AreSolved system.now vertices.now sets.now }
-    requires members { IsSiteIn (Contains vertices.now) (application.site_of m site.now) }
-    ensures { OnOk result (AddsEdges (IsEdgeAt system.now m site.now) out.old.items out.new.items) }
-{
-    let made = site_of(alloc, m, site)?;
-    let numbers = numbered_site(alloc, vertices, &made)?;
-    push_site(out, system, sets, m, site, &numbers)?;
     Ok(())
 }

@@ -1,13 +1,18 @@
 //! The call edges of an application whose system is solved.
-ghost use Rattle.std.specs.Prelude.{◌≡◌, ◌++◌, OnOk, flat_map};
+ghost use Rattle.std.specs.Prelude.{◌≡◌, ◌++◌, All, Contains, OnOk, flat_map};
+ghost use Rattle.std.specs.List.Sorted.{IsStrictlySortedBy};
+ghost use Rattle.flow_rules.specs.Flows.{require_order};
+ghost use Rattle.flow_rules.specs.declared.module.Require.{Require as AnyRequire};
 ghost use Rattle.composer.specs.CallEdges as edges;
 ghost use Rattle.composer.specs.Numbers.{value_at};
+ghost use Rattle.composer.specs.Parts.{IsNamed, lists_of};
+ghost use Rattle.composer.specs.Solved.{AddsEdges, IsAmong, IsLinkEdge};
 ghost use Rattle.composer.specs.Steps.{inputs};
 
-use crate::application::{Link, ModuleVertex, Value};
+use crate::application::{Link, ModuleVertex, Part, Value};
 use crate::sets::Sets;
 use crate::system::{CallSite, System};
-use flow_rules::{Constraints, Require};
+use flow_rules::Require;
 use jam_base::{Edge, FunctionRef, OutOfMemory};
 use js_scopes::SiteInfo;
 use std::alloc::AllocError;
@@ -15,46 +20,55 @@ use std::alloc::AllocError;
 /// Adds the edges of the requires that have a link.
 pub(crate) fn push_links(
     out: &mut Vec<Edge>,
-    modules: &[Constraints],
+    parts: &[Part],
     links: &[Link],
 ) -> Result<(), OutOfMemory>
-    ensures { OnOk result (out.new.items ≡ out.old.items ++ flat_map (edges.link_edges modules.now) links.now) }
+    requires { All (IsNamed (lists_of parts.now)) links.now }
+    ensures { OnOk result (AddsEdges (IsAmong (IsLinkEdge (lists_of parts.now)) links.now) out.old.items out.new.items) }
 {
     for link in links {
-        push_link(out, modules, link)?;
+        push_link(out, parts, link)?;
     }
     Ok(())
 }
 
-fn push_link(out: &mut Vec<Edge>, modules: &[Constraints], link: &Link) -> Result<(), OutOfMemory>
-    ensures { OnOk result (out.new.items ≡ out.old.items ++ edges.link_edges modules.now link.now) }
+fn push_link(out: &mut Vec<Edge>, parts: &[Part], link: &Link) -> Result<(), OutOfMemory>
+    requires { IsNamed (lists_of parts.now) link.now }
+    ensures { OnOk result (AddsEdges (IsLinkEdge (lists_of parts.now) link.now) out.old.items out.new.items) }
 {
-    match modules.get(link.module as usize) {
-        Some(constraints) => push_requires(out, link, constraints.requires_()),
-        None => Ok(()),
+    let requires_ = parts[link.module as usize].summary.requires_();
+    let holder = holder_at(requires_, link.offset);
+    out.push(link_edge(link, holder))?;
+    Ok(())
+}
+
+// The edge of a link whose require this function holds.
+fn link_edge(link: &Link, holder: u32) -> Edge
+    ensures { result ≡ edges.link_edge link.now holder }
+{
+    Edge {
+        caller: FunctionRef {
+            module: link.module,
+            function: holder,
+        },
+        offset: link.offset,
+        callee: FunctionRef {
+            module: link.target,
+            function: 0,
+        },
     }
 }
 
-// The edges of the link from these requires.
-fn push_requires(out: &mut Vec<Edge>, link: &Link, requires_: &[Require]) -> Result<(), OutOfMemory>
-    ensures { OnOk result (out.new.items ≡ out.old.items ++ flat_map (edges.require_edges link.now) requires_.now) }
+// The function that holds the require at the offset.
+fn holder_at(requires_: &[Require], offset: u32) -> u32
+    requires sorted { IsStrictlySortedBy require_order requires_.now }
+    requires stands { (r : AnyRequire) × Contains requires_.now r × (r.offset ≡ offset) }
+    ensures { (r : AnyRequire) → Contains requires_.now r → r.offset ≡ offset → result ≡ r.holder }
 {
-    for one in requires_ {
-        if one.offset == link.offset {
-            out.push(Edge {
-                caller: FunctionRef {
-                    module: link.module,
-                    function: one.holder,
-                },
-                offset: link.offset,
-                callee: FunctionRef {
-                    module: link.target,
-                    function: 0,
-                },
-            })?;
-        }
+    match requires_.binary_search_by(|r| r.offset.cmp(&offset)) {
+        Ok(place) => requires_[place].holder,
+        Err(_) => 0,
     }
-    Ok(())
 }
 
 /// Adds the edges of a site of module m, whose vertices have these numbers.

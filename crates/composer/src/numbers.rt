@@ -1,37 +1,76 @@
 //! Numbers for the vertices and values of an application.
 ghost use Rattle.std.specs.Prelude.{◌≡◌, ◌<◌, ◌≤◌, ◌∷◌, [], ◌++◌, ℕ, length, map, slice_index_or, All, Contains, IfOk, OnOk};
-ghost use Rattle.std.specs.List.Sorted.{IsStrictlySortedBy};
 ghost use Rattle.composer.specs.declared.application.ModuleVertex.{ModuleVertex as AnyVertex};
 ghost use Rattle.composer.specs.declared.application.Value.{Value as AnyValue};
 ghost use Rattle.composer.specs.declared.system.Callable.{Callable as AnyCallable};
 ghost use Rattle.composer.specs.Numbered as numbered;
 ghost use Rattle.composer.specs.Numbered.{Below, HasValues, IsArrowIn, IsCallableIn, IsSiteIn, IsSystemIn, map_arrow, map_callable, map_site, map_system};
-ghost use Rattle.composer.specs.Numbers.{module_vertex_order, value_at, vertex_at};
+ghost use Rattle.composer.specs.Numbers.{AreVertices, value_at, vertex_at};
 
 use crate::application::{ModuleVertex, Value};
 use crate::system::{Arrow, CallSite, Callable, System};
 use jam_base::{List, OutOfMemory};
 use std::alloc::Global;
+use std::marker::Model;
 
 /// How many items a list has at most: one of more finds no memory.
 pub(crate) const MOST: usize = 4294967295;
 
-/// The vertices of a system in order, each once: the number of a vertex is its place.
-pub(crate) fn vertices_of(
-    alloc: Global,
-    system: &System<ModuleVertex, Value>,
-) -> Result<Vec<ModuleVertex>, OutOfMemory>
-    ensures sorted { IfOk result (λ vertices. IsStrictlySortedBy module_vertex_order vertices.items) }
-    ensures few { IfOk result (λ vertices. length vertices.items ≤ 4294967295) }
-    ensures all { IfOk result (λ vertices. (v : AnyVertex) → Contains (numbered.all_vertices system.now) v → Contains vertices.items v) }
-{
-    let mut vertices = all_vertices(alloc, system)?;
-    vertices.sort()?;
-    vertices.dedup();
-    if vertices.len() > MOST {
-        return Err(OutOfMemory);
+/// The vertices of an application in order, each once: the number of a vertex is its place.
+#[derive(Drop)]
+pub(crate) struct Vertices {
+    sorted: Vec<ModuleVertex>,
+}
+
+impl Model for Vertices {
+    ghost use Rattle.std.specs.Prelude.{List};
+    ghost use Rattle.composer.specs.declared.application.ModuleVertex.{ModuleVertex as AnyVertex};
+    ghost use Rattle.composer.specs.Numbers.{AreVertices};
+
+    ghost Value = { List AnyVertex };
+
+    ghost view = { λ v. v.sorted.items };
+
+    ghost invariant = { λ v. AreVertices v.sorted.items };
+}
+
+impl Vertices {
+    /// The vertices of a system.
+    pub(crate) fn of(
+        alloc: Global,
+        system: &System<ModuleVertex, Value>,
+    ) -> Result<Vertices, OutOfMemory>
+        ensures vertices { IfOk result AreVertices }
+        ensures all { IfOk result (λ vertices. (v : AnyVertex) → Contains (numbered.all_vertices system.now) v → Contains vertices v) }
+    {
+        let mut sorted = all_vertices(alloc, system)?;
+        sorted.sort()?;
+        sorted.dedup();
+        if sorted.len() > MOST {
+            return Err(OutOfMemory);
+        }
+        Ok(Vertices { sorted })
     }
-    Ok(vertices)
+
+    /// How many there are.
+    pub(crate) fn count(&self) -> u32
+        ensures count { result ≡ length self.now }
+        ensures vertices { AreVertices self.now }
+    {
+        self.sorted.len() as u32
+    }
+
+    // The number of a vertex.
+    fn number_of(&self, vertex: &ModuleVertex) -> u32
+        requires { Contains self.now vertex.now }
+        ensures names { vertex_at self.now result ≡ vertex.now }
+        ensures below { result < length self.now }
+    {
+        match self.sorted.as_slice().binary_search(vertex) {
+            Ok(place) => place as u32,
+            Err(_) => 0,
+        }
+    }
 }
 
 fn all_vertices(
@@ -123,11 +162,9 @@ fn push_vertex(
 /// The system with numbers for its vertices and values.
 pub(crate) fn numbered(
     alloc: Global,
-    vertices: &[ModuleVertex],
+    vertices: &Vertices,
     system: &System<ModuleVertex, Value>,
 ) -> Result<System<u32, u32>, OutOfMemory>
-    requires sorted { IsStrictlySortedBy module_vertex_order vertices.now }
-    requires few { length vertices.now ≤ 4294967295 }
     requires members { IsSystemIn (Contains vertices.now) system.now }
     requires native { system.now.native ≡ value_at system.now (length system.now.functions) }
     ensures names { IfOk result (λ made. map_system (vertex_at vertices.now) (value_at system.now) made ≡ system.now) }
@@ -143,19 +180,17 @@ pub(crate) fn numbered(
         functions: List::of(functions),
         sites: List::of(sites),
         flows: List::of(flows),
-        elem: number_of(vertices, &system.elem),
+        elem: vertices.number_of(&system.elem),
         native_at: List::of(native_at),
     })
 }
 
 fn numbered_functions(
     alloc: Global,
-    vertices: &[ModuleVertex],
+    vertices: &Vertices,
     system: &System<ModuleVertex, Value>,
 ) -> Result<Vec<Callable<u32, u32>>, OutOfMemory>
-    requires sorted { IsStrictlySortedBy module_vertex_order vertices.now }
-    requires few { length vertices.now ≤ 4294967295 }
-    requires members { All (IsCallableIn (Contains vertices.now)) system.now.functions }
+    requires { All (IsCallableIn (Contains vertices.now)) system.now.functions }
     ensures names { IfOk result (λ made. map (map_callable (vertex_at vertices.now) (value_at system.now)) made.items ≡ system.now.functions) }
     ensures below { IfOk result (λ made. All (IsCallableIn (Below (length vertices.now))) made.items) }
     ensures values { IfOk result (λ made. (k : ℕ) (f : AnyCallable ℕ ℕ) → k < length made.items → (slice_index_or made.items k f).value ≡ k) }
@@ -175,13 +210,11 @@ fn numbered_functions(
 
 fn numbered_callable(
     alloc: Global,
-    vertices: &[ModuleVertex],
+    vertices: &Vertices,
     value: u32,
     callable: &Callable<ModuleVertex, Value>,
 ) -> Result<Callable<u32, u32>, OutOfMemory>
-    requires sorted { IsStrictlySortedBy module_vertex_order vertices.now }
-    requires few { length vertices.now ≤ 4294967295 }
-    requires members { IsCallableIn (Contains vertices.now) callable.now }
+    requires { IsCallableIn (Contains vertices.now) callable.now }
     ensures names { IfOk result (λ made. (e : ℕ → AnyValue) → e value ≡ callable.now.value → map_callable (vertex_at vertices.now) e made ≡ callable.now) }
     ensures below { IfOk result (IsCallableIn (Below (length vertices.now))) }
     ensures value { IfOk result (λ made. made.value ≡ value) }
@@ -189,21 +222,19 @@ fn numbered_callable(
     let params = numbers_of(alloc, vertices, callable.params.as_slice())?;
     Ok(Callable {
         value,
-        literal: number_of(vertices, &callable.literal),
+        literal: vertices.number_of(&callable.literal),
         params: List::of(params),
-        rest: number_of(vertices, &callable.rest),
-        ret: number_of(vertices, &callable.ret),
+        rest: vertices.number_of(&callable.rest),
+        ret: vertices.number_of(&callable.ret),
     })
 }
 
 fn numbered_sites(
     alloc: Global,
-    vertices: &[ModuleVertex],
+    vertices: &Vertices,
     sites: &[CallSite<ModuleVertex>],
 ) -> Result<Vec<CallSite<u32>>, OutOfMemory>
-    requires sorted { IsStrictlySortedBy module_vertex_order vertices.now }
-    requires few { length vertices.now ≤ 4294967295 }
-    requires members { All (IsSiteIn (Contains vertices.now)) sites.now }
+    requires { All (IsSiteIn (Contains vertices.now)) sites.now }
     ensures names { IfOk result (λ made. map (map_site (vertex_at vertices.now)) made.items ≡ sites.now) }
     ensures below { IfOk result (λ made. All (IsSiteIn (Below (length vertices.now))) made.items) }
 {
@@ -215,36 +246,32 @@ fn numbered_sites(
     Ok(out)
 }
 
-/// A site with numbers for its vertices.
-pub(crate) fn numbered_site(
+// A site with numbers for its vertices.
+fn numbered_site(
     alloc: Global,
-    vertices: &[ModuleVertex],
+    vertices: &Vertices,
     site: &CallSite<ModuleVertex>,
 ) -> Result<CallSite<u32>, OutOfMemory>
-    requires sorted { IsStrictlySortedBy module_vertex_order vertices.now }
-    requires few { length vertices.now ≤ 4294967295 }
-    requires members { IsSiteIn (Contains vertices.now) site.now }
+    requires { IsSiteIn (Contains vertices.now) site.now }
     ensures names { IfOk result (λ made. map_site (vertex_at vertices.now) made ≡ site.now) }
     ensures below { IfOk result (IsSiteIn (Below (length vertices.now))) }
 {
     let args = numbers_of(alloc, vertices, site.args.as_slice())?;
     Ok(CallSite {
-        callee: number_of(vertices, &site.callee),
+        callee: vertices.number_of(&site.callee),
         args: List::of(args),
-        more: number_of(vertices, &site.more),
-        recv: number_of(vertices, &site.recv),
-        res: number_of(vertices, &site.res),
+        more: vertices.number_of(&site.more),
+        recv: vertices.number_of(&site.recv),
+        res: vertices.number_of(&site.res),
     })
 }
 
 fn numbered_flows(
     alloc: Global,
-    vertices: &[ModuleVertex],
+    vertices: &Vertices,
     flows: &[Arrow<ModuleVertex>],
 ) -> Result<Vec<Arrow<u32>>, OutOfMemory>
-    requires sorted { IsStrictlySortedBy module_vertex_order vertices.now }
-    requires few { length vertices.now ≤ 4294967295 }
-    requires members { All (IsArrowIn (Contains vertices.now)) flows.now }
+    requires { All (IsArrowIn (Contains vertices.now)) flows.now }
     ensures names { IfOk result (λ made. map (map_arrow (vertex_at vertices.now)) made.items ≡ flows.now) }
     ensures below { IfOk result (λ made. All (IsArrowIn (Below (length vertices.now))) made.items) }
 {
@@ -255,47 +282,29 @@ fn numbered_flows(
     Ok(out)
 }
 
-fn numbered_flow(vertices: &[ModuleVertex], flow: &Arrow<ModuleVertex>) -> Arrow<u32>
-    requires sorted { IsStrictlySortedBy module_vertex_order vertices.now }
-    requires few { length vertices.now ≤ 4294967295 }
-    requires members { IsArrowIn (Contains vertices.now) flow.now }
+fn numbered_flow(vertices: &Vertices, flow: &Arrow<ModuleVertex>) -> Arrow<u32>
+    requires { IsArrowIn (Contains vertices.now) flow.now }
     ensures names { map_arrow (vertex_at vertices.now) result ≡ flow.now }
     ensures below { IsArrowIn (Below (length vertices.now)) result }
 {
     Arrow {
-        from: number_of(vertices, &flow.from),
-        to: number_of(vertices, &flow.to),
+        from: vertices.number_of(&flow.from),
+        to: vertices.number_of(&flow.to),
     }
 }
 
 fn numbers_of(
     alloc: Global,
-    vertices: &[ModuleVertex],
+    vertices: &Vertices,
     some: &[ModuleVertex],
 ) -> Result<Vec<u32>, OutOfMemory>
-    requires sorted { IsStrictlySortedBy module_vertex_order vertices.now }
-    requires few { length vertices.now ≤ 4294967295 }
-    requires members { All (Contains vertices.now) some.now }
+    requires { All (Contains vertices.now) some.now }
     ensures names { IfOk result (λ made. map (vertex_at vertices.now) made.items ≡ some.now) }
     ensures below { IfOk result (λ made. All (Below (length vertices.now)) made.items) }
 {
     let mut out = Vec::new(alloc);
     for vertex in some {
-        out.push(number_of(vertices, vertex))?;
+        out.push(vertices.number_of(vertex))?;
     }
     Ok(out)
-}
-
-// The place of a vertex among the vertices.
-fn number_of(vertices: &[ModuleVertex], vertex: &ModuleVertex) -> u32
-    requires sorted { IsStrictlySortedBy module_vertex_order vertices.now }
-    requires few { length vertices.now ≤ 4294967295 }
-    requires member { Contains vertices.now vertex.now }
-    ensures names { vertex_at vertices.now result ≡ vertex.now }
-    ensures below { result < length vertices.now }
-{
-    match vertices.binary_search(vertex) {
-        Ok(place) => place as u32,
-        Err(_) => 0,
-    }
 }

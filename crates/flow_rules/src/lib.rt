@@ -9,6 +9,7 @@
 
 mod arguments;
 mod calls;
+mod copies;
 mod extraction;
 mod facts;
 mod flow;

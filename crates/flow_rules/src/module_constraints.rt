@@ -1,11 +1,13 @@
 //! What a module says of its values.
-ghost use Rattle.std.specs.Prelude.{◌≡◌, IfSome, IfNone};
+ghost use Rattle.std.specs.Prelude.{◌≡◌, IfOk, IfSome, IfNone};
 ghost use Rattle.flow_rules.specs.Rules.{KeepsRules};
 
+use crate::copies::{copied_flows, copied_functions, copied_requires};
 use crate::rules::keep_rules;
 use crate::{Flow, ModuleNote, Require};
-use jam_base::List;
+use jam_base::{List, OutOfMemory};
 use js_scopes::{FunctionInfo, SiteInfo};
+use std::alloc::Global;
 use std::marker::Model;
 
 /// The functions of a module, its call sites, requires and notes, and the flows between its vertices: each
@@ -96,8 +98,27 @@ impl Constraints {
 
     /// The flows, by their ends.
     pub fn flows(&self) -> &[Flow]
-        ensures { result.now ≡ self.now.flows }
+        ensures flows { result.now ≡ self.now.flows }
+        ensures rules { KeepsRules self.now }
     {
         self.flows.as_slice()
+    }
+
+    /// Constraints equal to these.
+    pub fn copy(&self, alloc: Global) -> Result<Constraints, OutOfMemory>
+        ensures { IfOk result (λ made. made ≡ self.now) }
+    {
+        let functions = copied_functions(alloc, self.functions.as_slice())?;
+        let sites = self.sites.as_slice().to_vec(alloc)?;
+        let requires_ = copied_requires(alloc, self.requires_.as_slice())?;
+        let notes = self.notes.as_slice().to_vec(alloc)?;
+        let flows = copied_flows(alloc, self.flows.as_slice())?;
+        Ok(Constraints {
+            functions,
+            sites: List::of(sites),
+            requires_,
+            notes: List::of(notes),
+            flows,
+        })
     }
 }

@@ -11,7 +11,7 @@ use Rattle.jam_app.specs.declared.answers.refusal.Refusal.TheVariants as refusal
 use Rattle.jam_app.specs.declared.answers.stop.Stop.{Stop}
 use Rattle.jam_app.specs.declared.answers.stop.Stop.TheVariants.{ReadFault, OutOfMemory, Refused}
 use Rattle.jam_app.specs.Entries.{module_path}
-use Rattle.jam_app.specs.Refusals.{IsRefusal, no_entry}
+use Rattle.jam_app.specs.Refusals.{IsLoadRefusal, no_entry}
 use Rattle.jam_app.specs.declared.answers.status.Status.{Status}
 use Rattle.jam_app.specs.declared.answers.status.Status.TheVariants as statuses
 use Rattle.jam_app.specs.declared.answers.status.Status.TheVariants.{Clean, Alarms, WriteFault, NoMemory, Usage}
@@ -56,9 +56,9 @@ refused_stop P owed files before now (Refused answered line) is gives =
 
 -- an operand whose target isn't a module
 pub no_module : (operand : List ℕ) (files : Option Files) (before now : ℕ) (stop : Stop) (found : Target) (path : Option (List ℕ)) → IfSome files (λ m. found ≡ entry_target m (Some operand))
-    → path ≡ module_path found → path ≡ None → Refuses refusal.NoEntry stop → HasStopCause (IsRefusal operand) files before now stop
+    → path ≡ module_path found → path ≡ None → Refuses refusal.NoEntry stop → HasStopCause (IsLoadRefusal operand) files before now stop
 no_module operand files before now stop found path is named none refuses =
-    refused_stop (IsRefusal operand) refusal.NoEntry files before now stop refuses (told files is (λ m e. no_entry (ap module_path (sym e) ∙ sym named ∙ none)))
+    refused_stop (IsLoadRefusal operand) refusal.NoEntry files before now stop refuses (told files is (λ m e. no_entry (ap module_path (sym e) ∙ sym named ∙ none)))
 
 -- where the count stands still, any stop keeps it
 pub kept_count : (before now : ℕ) (stop : Stop) → now ≡ before → KeepsCount before now stop

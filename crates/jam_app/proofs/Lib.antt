@@ -1,3 +1,4 @@
+pub mod Ascending
 pub mod Bad
 pub mod Causes
 pub mod Ends
@@ -16,3 +17,4 @@ pub mod Targets
 pub mod Telling
 pub mod Whole
 pub mod WholeGraph
+pub mod Wide

@@ -10,8 +10,8 @@ use Rattle.js_tree.specs.Spells.{limit}
 use Rattle.composer.proofs.Members.{here}
 use Rattle.jam_app.specs.declared.answers.refusal.Refusal.{Refusal}
 use Rattle.jam_app.specs.declared.answers.refusal.Refusal.TheVariants as refusal
-use Rattle.jam_app.specs.Refusals.{IsFirstBad, IsOneTooMany, IsReached, IsRefusal, counted_bytes, no_entry, not_in_profile, too_large, too_many, without_place}
-use Rattle.jam_app.specs.Rounds.{Fits, IsRound, bytes_at}
+use Rattle.jam_app.specs.Refusals.{IsFirstBad, IsOneTooMany, IsReached, IsLoadRefusal, IsRefusal, counted_bytes, load, no_entry, not_in_profile, too_large, too_many, too_wide, without_place}
+use Rattle.jam_app.specs.Rounds.{Fits, IsApplication, IsRound, bytes_at}
 use Rattle.jam_app.specs.Texts.{IsBad}
 use Rattle.jam_app.proofs.RoundLemmas.{one_round, round_within}
 use Rattle.jam_app.proofs.Whole.{prefix_fits}
@@ -136,23 +136,31 @@ module _ (m : Files) (operand : List ℕ) where
     ]
   ]
 
-  pub one_refusal : (one other : Refusal) → IsRefusal operand m one → IsRefusal operand m other → without_place one ≡ without_place other
-  one_refusal one other (no_entry a) (no_entry b) = refl
-  one_refusal one other (no_entry a) (too_many e p b) = absurd (none-some b.reached.entry (sym a ∙ b.reached.found))
-  one_refusal one other (no_entry a) (too_large p b over) = absurd (none-some b.reached.entry (sym a ∙ b.reached.found))
-  one_refusal one other (no_entry a) (not_in_profile p at b within refused) = absurd (none-some b.reached.entry (sym a ∙ b.reached.found))
-  one_refusal one other (too_many e p a) (no_entry b) = absurd (none-some a.reached.entry (sym b ∙ a.reached.found))
-  one_refusal one other (too_many e p a) (too_many d q b) =
+  one_load : (one other : Refusal) → IsLoadRefusal operand m one → IsLoadRefusal operand m other → without_place one ≡ without_place other
+  one_load one other (no_entry a) (no_entry b) = refl
+  one_load one other (no_entry a) (too_many e p b) = absurd (none-some b.reached.entry (sym a ∙ b.reached.found))
+  one_load one other (no_entry a) (too_large p b over) = absurd (none-some b.reached.entry (sym a ∙ b.reached.found))
+  one_load one other (no_entry a) (not_in_profile p at b within refused) = absurd (none-some b.reached.entry (sym a ∙ b.reached.found))
+  one_load one other (too_many e p a) (no_entry b) = absurd (none-some a.reached.entry (sym b ∙ a.reached.found))
+  one_load one other (too_many e p a) (too_many d q b) =
       let same = many_twice e d p q a b in λ i. refusal.TooMany (length (same.0 i) + 1) (counted_bytes m (same.0 i) (same.1 i))
-  one_refusal one other (too_many e p a) (too_large q b over) = absurd (many_bad e p q a b)
-  one_refusal one other (too_many e p a) (not_in_profile q at b within refused) = absurd (many_bad e p q a b)
-  one_refusal one other (too_large p a over) (no_entry b) = absurd (none-some a.reached.entry (sym b ∙ a.reached.found))
-  one_refusal one other (too_large p a over) (too_many e q b) = absurd (many_bad e q p b a)
-  one_refusal one other (too_large p a over) (too_large q b more) = ap (λ (x : List ℕ). refusal.TooLarge x (length (bytes_at m x))) (bad_twice p q a b)
-  one_refusal one other (too_large p a over) (not_in_profile q at b within refused) =
+  one_load one other (too_many e p a) (too_large q b over) = absurd (many_bad e p q a b)
+  one_load one other (too_many e p a) (not_in_profile q at b within refused) = absurd (many_bad e p q a b)
+  one_load one other (too_large p a over) (no_entry b) = absurd (none-some a.reached.entry (sym b ∙ a.reached.found))
+  one_load one other (too_large p a over) (too_many e q b) = absurd (many_bad e q p b a)
+  one_load one other (too_large p a over) (too_large q b more) = ap (λ (x : List ℕ). refusal.TooLarge x (length (bytes_at m x))) (bad_twice p q a b)
+  one_load one other (too_large p a over) (not_in_profile q at b within refused) =
       let same : length (bytes_at m p) ≡ length (bytes_at m q) = ap (λ (x : List ℕ). length (bytes_at m x)) (bad_twice p q a b) in absurd (omega (arith, over, within, same))
-  one_refusal one other (not_in_profile p at a within refused) (no_entry b) = absurd (none-some a.reached.entry (sym b ∙ a.reached.found))
-  one_refusal one other (not_in_profile p at a within refused) (too_many e q b) = absurd (many_bad e q p b a)
-  one_refusal one other (not_in_profile p at a within refused) (too_large q b over) =
+  one_load one other (not_in_profile p at a within refused) (no_entry b) = absurd (none-some a.reached.entry (sym b ∙ a.reached.found))
+  one_load one other (not_in_profile p at a within refused) (too_many e q b) = absurd (many_bad e q p b a)
+  one_load one other (not_in_profile p at a within refused) (too_large q b over) =
       let same : length (bytes_at m p) ≡ length (bytes_at m q) = ap (λ (x : List ℕ). length (bytes_at m x)) (bad_twice p q a b) in absurd (omega (arith, over, within, same))
-  one_refusal one other (not_in_profile p at a within refused) (not_in_profile q place b small because) = ap (λ (x : List ℕ). refusal.NotInProfile x 0) (bad_twice p q a b)
+  one_load one other (not_in_profile p at a within refused) (not_in_profile q place b small because) = ap (λ (x : List ℕ). refusal.NotInProfile x 0) (bad_twice p q a b)
+
+  pub one_refusal : (one other : Refusal) → IsRefusal operand m one → IsRefusal operand m other → without_place one ≡ without_place other
+  one_refusal one other (load o a) (load p b) = one_load one other a b
+  one_refusal one other (load o a) (too_wide n b) = absurd (b.unrefused one a)
+  one_refusal one other (too_wide n a) (load p b) = absurd (a.unrefused other b)
+  one_refusal one other (too_wide n a) (too_wide k b) =
+      let entry : b.entry ≡ a.entry = same_Some b.entry a.entry (sym b.found ∙ a.found) in
+      ap refusal.TooWide (sym (a.size_is b.modules (subst (λ e. IsApplication m e b.modules) entry b.application)) ∙ b.size_is b.modules b.application)

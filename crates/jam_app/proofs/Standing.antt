@@ -57,7 +57,7 @@ are_of m modules sources round are files =
 -- a tree of the file is the one that was found
 one_tree : (m : Files) (l : Loaded) (tree : Tree) → IsRead m l → IsTreeOf l.bytes.items tree → tree ≡ l.tree
 one_tree m l tree read (spelled s) = read.only.only tree s
-one_tree m l tree read (bad none e) = absurd (none l.tree read.kept.spelled)
+one_tree m l tree read (bad none e) = absurd (none l.tree read.kept.only.spelled)
 
 module _ (m : Files) (modules : List Loaded) (round paths : List (List ℕ)) (of : AreOf m modules round) (read : All (IsRead m) modules) (paths_are : paths ≡ flat_map led_from modules) where
   bytes_here : (l : Loaded) → Contains modules l → l.bytes.items ≡ bytes_at m l.path
@@ -76,7 +76,7 @@ module _ (m : Files) (modules : List Loaded) (round paths : List (List ℕ)) (of
       both : (ls : List Loaded) → All (λ (l : Loaded). l.bytes.items ≡ bytes_at m l.path) ls → All (IsRead m) ls → All (λ (l : Loaded). IsBad (bytes_at m l.path) → ⊥) ls
       both [] b r = All-nil (λ (l : Loaded). IsBad (bytes_at m l.path) → ⊥)
       both (l ∷ ls) b r = All-cons (λ (l : Loaded). IsBad (bytes_at m l.path) → ⊥) l ls
-          (λ h. h l.tree (subst (λ (bs : List ℕ). IsSpelled bs l.tree) (All-head (λ (l : Loaded). l.bytes.items ≡ bytes_at m l.path) l ls b) (All-head (IsRead m) l ls r).kept.spelled))
+          (λ h. h l.tree (subst (λ (bs : List ℕ). IsSpelled bs l.tree) (All-head (λ (l : Loaded). l.bytes.items ≡ bytes_at m l.path) l ls b) (All-head (IsRead m) l ls r).kept.only.spelled))
           (both ls (All-tail (λ (l : Loaded). l.bytes.items ≡ bytes_at m l.path) l ls b) (All-tail (IsRead m) l ls r))
 
   -- where a require leads is required
@@ -90,7 +90,7 @@ module _ (m : Files) (modules : List Loaded) (round paths : List (List ℕ)) (of
         in_round l found.1,
         record {
           tree = l.tree;
-          tree_is = subst (λ (bs : List ℕ). IsTreeOf bs l.tree) (bytes_here l found.1) (spelled (read_here l found.1).kept.spelled);
+          tree_is = subst (λ (bs : List ℕ). IsTreeOf bs l.tree) (bytes_here l found.1) (spelled (read_here l found.1).kept.only.spelled);
           require = leads.require;
           here = leads.here;
           target_is = leads.target_is ∙ ap (λ (p : List ℕ). target.Module p) led.2;

@@ -15,7 +15,7 @@ use Rattle.jam_app.specs.declared.loading.source.Source.{Source}
 use Rattle.jam_app.specs.Reading as reading
 use Rattle.jam_app.specs.Reading.{HasBad, HasExcess, IsRead, IsRefusedFor, file_at, file_of, led_from, size_of, source_of}
 use Rattle.jam_app.specs.BetweenRounds.{IsHeld, Stands, found_at}
-use Rattle.jam_app.specs.Refusals.{IsFirstBad, IsRefusal, not_in_profile, too_large, too_many}
+use Rattle.jam_app.specs.Refusals.{IsFirstBad, IsLoadRefusal, not_in_profile, too_large, too_many}
 use Rattle.jam_app.specs.Rounds.{Ascend, Fits, IsRound, NoneBad, bytes_at, total_bytes}
 use Rattle.jam_app.specs.Texts.{IsBad}
 use Rattle.jam_app.proofs.Keeping.{Kept}
@@ -59,10 +59,10 @@ stands_next m operand old new sources modules round paths next stands files are 
 
 -- the first module that is one too many is refused
 pub refuses_excess : (m : Files) (operand : List ℕ) (old : Progress) (round : List (List ℕ)) (owed : Refusal) → Stands operand m old round
-    → ((earlier : List (List ℕ)) → old.size ≡ size_of m earlier → HasExcess m earlier round owed) → IsRefusal operand m owed
+    → ((earlier : List (List ℕ)) → old.size ≡ size_of m earlier → HasExcess m earlier round owed) → IsLoadRefusal operand m owed
 refuses_excess m operand old round owed stands has =
     let h = has stands.before stands.size in
-    subst (IsRefusal operand m) (sym h.excess.is) (too_many (stands.before ++ h.front) h.path (record {
+    subst (IsLoadRefusal operand m) (sym h.excess.is) (too_many (stands.before ++ h.front) h.path (record {
       before = stands.before;
       front = h.front;
       behind = h.behind;
@@ -79,14 +79,14 @@ is_bad : (path bytes : List ℕ) (owed : Refusal) → IsRefusedFor path bytes ow
 is_bad path bytes owed (reading.too_large over) = large_bad bytes over
 is_bad path bytes owed (reading.not_in_profile at none within refused) = none
 
-refuses_for : (m : Files) (operand path : List ℕ) (owed : Refusal) → IsFirstBad operand m path → IsRefusedFor path (bytes_at m path) owed → IsRefusal operand m owed
+refuses_for : (m : Files) (operand path : List ℕ) (owed : Refusal) → IsFirstBad operand m path → IsRefusedFor path (bytes_at m path) owed → IsLoadRefusal operand m owed
 refuses_for m operand path owed first (reading.too_large over) = too_large path first over
 refuses_for m operand path owed first (reading.not_in_profile at none within refused) = not_in_profile path at first within refused
 
 -- the first bad module of a round is refused
 pub refuses_bad : (m : Files) (operand : List ℕ) (old : Progress) (new : Size) (sources : List Source) (round : List (List ℕ)) (owed : Refusal) → Stands operand m old round
     → map file_of sources ≡ map (file_at m) round → ((earlier : List (List ℕ)) → old.size ≡ size_of m earlier → new ≡ size_of m (earlier ++ round)) → new.modules ≤ 16384 → new.bytes ≤ 67108864
-    → HasBad sources owed → IsRefusal operand m owed
+    → HasBad sources owed → IsLoadRefusal operand m owed
 refuses_bad m operand old new sources round owed stands files sizes few room has =
     let whole = whole_files m sources round files in
     let source = has.source in

@@ -8,7 +8,7 @@ use Rattle.std.proofs.lemmas.List.Elements.{filter_map-append}
 use Rattle.std.proofs.lemmas.Option.{none-some, same_Some}
 use Rattle.jam_base.specs.Files.{Files}
 use Rattle.flow_rules.specs.Constraints.{ModuleConstraints}
-use Rattle.flow_rules.specs.Flows.{constraints_of, requires_of}
+use Rattle.flow_rules.specs.Flows.{requires_of}
 use Rattle.flow_rules.specs.declared.module.Require.{Require}
 use Rattle.node_resolve.specs.declared.target.Target.{Target}
 use Rattle.node_resolve.specs.declared.target.Target.TheVariants as target
@@ -17,7 +17,7 @@ use Rattle.composer.proofs.Members.{none, here, there, cons_cases}
 use Rattle.jam_app.specs.declared.loading.loaded.Led.{Led}
 use Rattle.jam_app.specs.declared.loading.loaded.Loaded.{Loaded}
 use Rattle.jam_app.specs.Entries.{module_path}
-use Rattle.jam_app.specs.Loading.{Leads}
+use Rattle.jam_app.specs.Loading.{IsSummaryOf, Leads}
 use Rattle.jam_app.specs.Reading.{IsRead, led_by, led_to}
 use Rattle.jam_app.specs.Texts.{IsOnlyTree}
 
@@ -66,16 +66,16 @@ into_led : (offset : ℕ) (t : Target) (led : Led) → offset ≡ led.offset →
 into_led offset t led o is = ap (λ t. led_to offset (module_path t)) is ∙ (λ i. Some (record { offset = o i; path = led.path }))
 
 -- what is kept of a module is all right
-pub is_read : (m : Files) (l : Loaded) → IsOnlyTree l.bytes.items l.tree → l.constraints ≡ constraints_of l.tree → l.targets.items ≡ filter_map (led_by m l.path) l.constraints.requires_ → IsRead m l
-is_read m l only constraints targets =
+pub is_read : (m : Files) (l : Loaded) → IsOnlyTree l.bytes.items l.tree → IsSummaryOf l.tree l.summary → l.targets.items ≡ filter_map (led_by m l.path) l.summary.lists.requires_ → IsRead m l
+is_read m l only summary targets =
     let f = led_by m l.path in
-    let requires_ : l.constraints.requires_ ≡ requires_of l.tree = ap (λ (c : ModuleConstraints). c.requires_) constraints in
+    let requires_ : l.summary.lists.requires_ ≡ requires_of l.tree = ap (λ (c : ModuleConstraints). c.requires_) summary.whole in
     let all : l.targets.items ≡ filter_map f (requires_of l.tree) = targets ∙ ap (filter_map f) requires_ in
     record {
       only = only;
       kept = record {
-        spelled = only.spelled;
-        constraints = constraints;
+        only = only;
+        summary = summary;
         targets = λ led. (
           λ h. leads led (from_filter_map f (requires_of l.tree) led (subst (λ ts. Contains ts led) all h)),
           λ leads. subst (λ ts. Contains ts led) (sym all) (into_filter_map f (requires_of l.tree) leads.require led leads.here (into_led leads.require.offset (target_of m l.path leads.require.spec) led leads.offset leads.target_is)),

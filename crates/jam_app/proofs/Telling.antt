@@ -7,7 +7,7 @@ use Rattle.jam_app.specs.declared.answers.refusal.Refusal.{Refusal}
 use Rattle.jam_app.specs.declared.answers.refusal.Refusal.TheVariants as refusal
 use Rattle.jam_app.specs.declared.answers.status.Status.{Status}
 use Rattle.jam_app.specs.declared.answers.status.Status.TheVariants as status
-use Rattle.jam_app.specs.Lines.{IsRefusalText, IsTold, TellsRefusal, TellsStatus, no_entry, not_in_profile_line, text_of, too_large_line, too_many_line}
+use Rattle.jam_app.specs.Lines.{IsRefusalText, IsTold, TellsRefusal, TellsStatus, no_entry, not_in_profile_line, text_of, too_large_line, too_many_line, too_wide_line}
 use Rattle.jam_app.specs.Written.{TakesFront}
 
 nothing_taken : (n : ℕ) → take n (let none : List ℕ = [] in none) ≡ []
@@ -26,6 +26,7 @@ refusal_text (refusal.TooMany modules bytes) = (too_many_line modules bytes, ref
 refusal_text (refusal.TooLarge path n) = (too_large_line path n, refl)
 refusal_text (refusal.NotInProfile path at) =
     let place : Place = record { offset = at; line = 1; column = 1 } in (not_in_profile_line path 1 1, (place, refl, refl))
+refusal_text (refusal.TooWide size) = (too_wide_line size, refl)
 
 told_refusal : (old new : Option (List ℕ)) (owed : Refusal) (line : Line) → TellsRefusal owed line → TakesFront old new (text_of line) → (text : List ℕ) × IsRefusalText owed text × TakesFront old new text
 told_refusal old new owed Nothing tells took = let text = refusal_text owed in (text.0, text.1, front_of_none old new text.0 took)

@@ -22,7 +22,7 @@ use Rattle.jam_app.specs.Entries.{entry_path}
 use Rattle.jam_app.specs.Loading.{IsKept, IsWhole, module_of}
 use Rattle.jam_app.specs.Loading.{IsAnalysed}
 use Rattle.jam_app.specs.BetweenRounds.{HoldsAnalysed, Stands, found_at}
-use Rattle.jam_app.specs.Refusals.{IsFirstBad, IsOneTooMany, IsReached, IsRefusal, no_entry, not_in_profile, too_large, too_many}
+use Rattle.jam_app.specs.Refusals.{IsFirstBad, IsOneTooMany, IsReached, IsLoadRefusal, no_entry, not_in_profile, too_large, too_many}
 use Rattle.jam_app.specs.Rounds.{Ascend, Fits, IsModuleOf, IsRound, LoadedModule, bytes_at, spelled, total_bytes}
 use Rattle.jam_app.specs.Texts.{IsBad}
 use Rattle.jam_app.proofs.Keeping.{path_of}
@@ -111,7 +111,7 @@ module _ (m : Files) (operand : List ℕ) (progress : Progress) (stands : Stands
       ∙ append_assoc (earlier ++ path ∷ []) one.behind all.0 in
       one.over (prefix_fits m stands.before (earlier ++ path ∷ []) (one.behind ++ all.0) parts fits)
 
-  none_owed : Fits m stands.before → (owed : Refusal) → IsRefusal operand m owed → ⊥
+  none_owed : Fits m stands.before → (owed : Refusal) → IsLoadRefusal operand m owed → ⊥
   none_owed fits owed (no_entry no_path) = none-some stands.entry (sym no_path ∙ stands.found)
   none_owed fits owed (too_many earlier path one) = no_excess earlier path fits one
   none_owed fits owed (too_large path first over) = no_first_bad path first
@@ -146,7 +146,7 @@ module _ (m : Files) (operand : List ℕ) (progress : Progress) (stands : Stands
             λ h. subst (λ (ps : List (List ℕ)). Contains ps path) (sym paths) ((btree_map_contains_key_iff nat_list_cmp_total exact_bytes progress.modules path).0 ((stands.here path).1 (loaded_before m stands.entry stands.number stands.before stands.is_round path h))),
           );
           modules_are = All-map (IsModuleOf m) module_of values (All-weaker (λ (l : Loaded). (l.bytes.items ≡ bytes_at m l.path) × IsKept m l) (λ l. IsModuleOf m (module_of l))
-              (λ l h. record { bytes = h.0; tree = spelled h.1.spelled }) values all.1);
+              (λ l h. record { bytes = h.0; tree = spelled h.1.only.spelled }) values all.1);
         };
         kept = All-weaker (λ (l : Loaded). (l.bytes.items ≡ bytes_at m l.path) × IsKept m l) (IsKept m) (λ l h. h.1) values all.1;
         unrefused = none_owed (size_fits m progress.size stands.before stands.size few room);

@@ -19,7 +19,7 @@ use Rattle.report_text.specs.declared.shown.Shown.{Shown}
 use Rattle.report_text.specs.Graph.{graph_text_of}
 use Rattle.jam_app.specs.declared.loading.loaded.Led.{Led}
 use Rattle.jam_app.specs.declared.loading.loaded.Loaded.{Loaded}
-use Rattle.jam_app.specs.Graphs.{IsGraphText, nowhere, shown_call, shown_edge, shown_function, shown_in, shown_number}
+use Rattle.jam_app.specs.Graphs.{IsGraphText, constraints_all, nowhere, shown_call, shown_edge, shown_function, shown_in, shown_number}
 use Rattle.jam_app.specs.Loading.{IsKept, IsWhole, Leads, module_of}
 use Rattle.jam_app.specs.Links.{Adds, LinksBelow}
 use Rattle.jam_app.specs.Printing.{PrintedModule, call_in, edge_among, function_among, printed_of}
@@ -63,11 +63,11 @@ kept_at : (files : Files) (loaded : List Loaded) (k : ℕ) (l : Loaded) → All 
 kept_at files loaded k l all here = subst (IsKept files) (get_or_from_slice_get loaded k l l here) (all k l (slice_get_within loaded k l here))
 
 -- the constraints that are kept are those of the trees
-constraints_same : (files : Files) (loaded : List Loaded) → All (IsKept files) loaded → map (λ (l : Loaded). l.constraints) loaded ≡ map (λ (m : LoadedModule). constraints_of m.tree) (map module_of loaded)
+pub constraints_same : (files : Files) (loaded : List Loaded) → All (IsKept files) loaded → map (λ (l : Loaded). l.summary.lists) loaded ≡ constraints_all (map module_of loaded)
 constraints_same files [] all = refl
 constraints_same files (l ∷ ls) all =
     let first : IsKept files l = all 0 l (omega arith) in
-    λ i. first.constraints i ∷ constraints_same files ls (λ k d lt. all (suc k) d (omega (arith, lt))) i
+    λ i. first.summary.whole i ∷ constraints_same files ls (λ k d lt. all (suc k) d (omega (arith, lt))) i
 
 -- a loaded module behind one that is seen
 loaded_at : (loaded : List Loaded) (k : ℕ) (m : LoadedModule) → slice_get (map module_of loaded) k ≡ Some m → (l : Loaded) × (slice_get loaded k ≡ Some l) × (module_of l ≡ m)
@@ -124,7 +124,7 @@ module _ (files : Files) (loaded : List Loaded) (kept : All (IsKept files) loade
   )
 
 pub graph_owed : (operand : List ℕ) (files : Files) (loaded : List Loaded) (links : List Link) (printed : List PrintedModule) (constraints : List ModuleConstraints) (edges : List Edge) (steps : List PathStep) (text : List ℕ)
-    → Adds (LinksBelow loaded (length loaded)) [] links → printed ≡ map printed_of (map module_of loaded) → constraints ≡ map (λ (l : Loaded). l.constraints) loaded
+    → Adds (LinksBelow loaded (length loaded)) [] links → printed ≡ map printed_of (map module_of loaded) → constraints ≡ map (λ (l : Loaded). l.summary.lists) loaded
     → IsEdgeList constraints links edges → steps ≡ map (edge_among printed) edges → text ≡ graph_text_of steps
     → IsWhole operand files loaded → IsGraphText operand files text
 graph_owed operand files loaded links printed constraints edges steps text adds is_printed is_said are_edges are_steps is_text whole = record {

@@ -6,6 +6,7 @@ use Rattle.jam_base.specs.declared.edge.Edge.{Edge}
 use Rattle.jam_base.specs.declared.edge.FunctionRef.{FunctionRef}
 use Rattle.js_scopes.specs.declared.function.FunctionInfo.{FunctionInfo}
 use Rattle.js_scopes.specs.Scopes.{functions_of}
+use Rattle.flow_rules.specs.Constraints.{ModuleConstraints}
 use Rattle.flow_rules.specs.Flows.{constraints_of}
 use Rattle.composer.specs.declared.application.Link.{Link}
 use Rattle.composer.specs.Edges.{IsEdgeList}
@@ -45,6 +46,10 @@ shown_edge modules edge = elim (slice_get modules edge.caller.module) [
   | Some m ↦ shown_call edge.offset (shown_function modules edge.callee) m
 ]
 
+-- what the trees of modules say of their values
+abbrev pub constraints_all : List LoadedModule → List ModuleConstraints
+constraints_all modules = map (λ (m : LoadedModule). constraints_of m.tree) modules
+
 -- the text that `graph` owes for the operand over the files: the call edges of the least solution of the constraints of all loaded modules at once
 pub record IsGraphText (operand : List ℕ) (files : Files) (text : List ℕ) : Type 0 where
   pub entry : List ℕ
@@ -54,5 +59,5 @@ pub record IsGraphText (operand : List ℕ) (files : Files) (text : List ℕ) : 
   pub links : List Link
   pub links_are : AreLinks files modules links
   pub edges : List Edge
-  pub edges_are : IsEdgeList (map (λ m. constraints_of m.tree) modules) links edges
+  pub edges_are : IsEdgeList (constraints_all modules) links edges
   pub graph : text ≡ graph_text_of (map (shown_edge modules) edges)

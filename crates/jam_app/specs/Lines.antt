@@ -7,7 +7,7 @@ use Rattle.report_text.specs.Escape.{escaped}
 use Rattle.jam_app.specs.declared.answers.line.Line.{Line}
 use Rattle.jam_app.specs.declared.answers.line.Line.TheVariants.{Nothing, Fixed, Made}
 use Rattle.jam_app.specs.declared.answers.refusal.Refusal.{Refusal}
-use Rattle.jam_app.specs.declared.answers.refusal.Refusal.TheVariants.{NoEntry, TooMany, TooLarge, NotInProfile}
+use Rattle.jam_app.specs.declared.answers.refusal.Refusal.TheVariants.{NoEntry, TooMany, TooLarge, NotInProfile, TooWide}
 use Rattle.jam_app.specs.declared.answers.status.Status.{Status}
 use Rattle.jam_app.specs.declared.answers.status.Status.TheVariants.{Clean, Alarms, Refused, ReadFault, WriteFault, NoMemory, Usage}
 
@@ -43,12 +43,16 @@ place_text path line column = escaped path ++ (codes ":" ++ (decimal line ++ (co
 abbrev pub not_in_profile_line : List ℕ → ℕ → ℕ → List ℕ
 not_in_profile_line path line column = codes "jam: " ++ (place_text path line column ++ codes ": not in the profile\n")
 
+abbrev pub too_wide_line : ℕ → List ℕ
+too_wide_line size = codes "jam: too wide: " ++ (decimal size ++ codes "\n")
+
 -- what is written of a refusal
 abbrev pub IsRefusalText : Refusal → List ℕ → Type 0
 IsRefusalText NoEntry text = text ≡ no_entry
 IsRefusalText (TooMany modules bytes) text = text ≡ too_many_line modules bytes
 IsRefusalText (TooLarge path n) text = text ≡ too_large_line path n
 IsRefusalText (NotInProfile path at) text = (place : Place) × (place.offset ≡ at) × (text ≡ not_in_profile_line path place.line place.column)
+IsRefusalText (TooWide size) text = text ≡ too_wide_line size
 
 -- the line says why the request is refused, where there was memory for it
 abbrev pub TellsRefusal : Refusal → Line → Type 0

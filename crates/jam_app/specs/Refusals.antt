@@ -6,7 +6,9 @@ use Rattle.js_parser.specs.Reading.{IsStop}
 use Rattle.jam_base.specs.Files.{Files}
 use Rattle.jam_app.specs.Entries.{entry_path}
 use Rattle.jam_app.specs.Texts.{IsBad, is_ascii}
-use Rattle.jam_app.specs.Rounds.{bytes_at, total_bytes, module_limit, IsRound, Fits, NoneBad}
+use Rattle.jam_app.specs.Rounds.{bytes_at, total_bytes, module_limit, IsApplication, IsRound, Fits, LoadedModule, NoneBad}
+use Rattle.composer.specs.Sizes.{size_limit, size_of}
+use Rattle.jam_app.specs.Graphs.{constraints_all}
 use Rattle.jam_app.specs.declared.answers.refusal.Refusal.{Refusal}
 use Rattle.jam_app.specs.declared.answers.refusal.Refusal.TheVariants as refusal
 
@@ -49,15 +51,30 @@ pub record IsFirstBad (operand : List ℕ) (files : Files) (path : List ℕ) : T
   pub none_bad : NoneBad files front
   pub bad : IsBad (bytes_at files path)
 
--- the refusal that `graph` owes for the operand over the files: no entry; else, round by round, a module too many, or the first bad one
-pub data IsRefusal (operand : List ℕ) (files : Files) : Refusal → Type 0 where
-  no_entry : entry_path operand files ≡ None → IsRefusal operand files refusal.NoEntry
+-- the refusal that loading owes for the operand over the files: no entry; else, round by round, a module too many, or the first bad one
+pub data IsLoadRefusal (operand : List ℕ) (files : Files) : Refusal → Type 0 where
+  no_entry : entry_path operand files ≡ None → IsLoadRefusal operand files refusal.NoEntry
   too_many : (earlier : List (List ℕ)) (path : List ℕ) → IsOneTooMany operand files earlier path
-      → IsRefusal operand files (refusal.TooMany (length earlier + 1) (counted_bytes files earlier path))
+      → IsLoadRefusal operand files (refusal.TooMany (length earlier + 1) (counted_bytes files earlier path))
   too_large : (path : List ℕ) → IsFirstBad operand files path → limit < length (bytes_at files path)
-      → IsRefusal operand files (refusal.TooLarge path (length (bytes_at files path)))
+      → IsLoadRefusal operand files (refusal.TooLarge path (length (bytes_at files path)))
   not_in_profile : (path : List ℕ) (at : ℕ) → IsFirstBad operand files path → length (bytes_at files path) ≤ limit → IsRefusedAt (bytes_at files path) at
-      → IsRefusal operand files (refusal.NotInProfile path at)
+      → IsLoadRefusal operand files (refusal.NotInProfile path at)
+
+-- the modules of the application, of which loading owes no refusal, have this size together whichever trees their texts have, and are too wide for their composition
+pub record IsTooWide (operand : List ℕ) (files : Files) (size : ℕ) : Type 0 where
+  pub entry : List ℕ
+  pub found : entry_path operand files ≡ Some entry
+  pub unrefused : (owed : Refusal) → IsLoadRefusal operand files owed → ⊥
+  pub modules : List LoadedModule
+  pub application : IsApplication files entry modules
+  pub size_is : (others : List LoadedModule) → IsApplication files entry others → size_of (constraints_all others) ≡ size
+  pub over : size_limit ≤ size
+
+-- the refusal that `graph` owes for the operand over the files: that of loading, or else that the modules are too wide
+pub data IsRefusal (operand : List ℕ) (files : Files) : Refusal → Type 0 where
+  load : (owed : Refusal) → IsLoadRefusal operand files owed → IsRefusal operand files owed
+  too_wide : (size : ℕ) → IsTooWide operand files size → IsRefusal operand files (refusal.TooWide size)
 
 -- the refusal but for the place at which a text outside the profile was left
 abbrev pub without_place : Refusal → Refusal
@@ -65,3 +82,4 @@ without_place refusal.NoEntry = refusal.NoEntry
 without_place (refusal.TooMany modules bytes) = refusal.TooMany modules bytes
 without_place (refusal.TooLarge path n) = refusal.TooLarge path n
 without_place (refusal.NotInProfile path at) = refusal.NotInProfile path 0
+without_place (refusal.TooWide size) = refusal.TooWide size

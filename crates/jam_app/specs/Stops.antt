@@ -1,5 +1,5 @@
 -- What a step of the work answers.
-use Rattle.std.specs.Prelude.{◌≡◌, ℕ, ◌<◌, ◌≤◌, List, length, Result, Ok, Err, IfErr, OnOk, Option, IfSome}
+use Rattle.std.specs.Prelude.{◌≡◌, ◌⊎◌, ℕ, ◌<◌, ◌≤◌, List, length, Result, Ok, Err, IfErr, OnOk, Option, IfSome}
 use Rattle.js_tree.specs.Spells.{limit}
 use Rattle.jam_base.specs.Causes.{Rose}
 use Rattle.jam_base.specs.Files.{Files}
@@ -12,6 +12,7 @@ use Rattle.jam_app.specs.declared.loading.text.Bad.TheVariants as bad
 use Rattle.jam_app.specs.Texts.{IsBad}
 use Rattle.jam_app.specs.declared.answers.line.Line.{Line}
 use Rattle.jam_app.specs.Lines.{TellsRefusal}
+use Rattle.composer.specs.Sizes.{size_limit}
 use Rattle.jam_app.specs.Graphs.{IsGraphText}
 use Rattle.jam_app.specs.Refusals.{IsRefusal, IsRefusedAt}
 
@@ -48,6 +49,10 @@ Gives owed refused files before now (Err stop) = HasStopCause refused files befo
 pub record IsOwed (operand : List ℕ) (files : Files) (text : List ℕ) : Type 0 where
   pub graph : IsGraphText operand files text
   pub unrefused : (owed : Refusal) → IsRefusal operand files owed → ⊥
+
+-- composition stops for want of memory, or since the parts have this size and are too wide
+abbrev pub StopsWide : ℕ → Stop → Type 0
+StopsWide size stop = (stop ≡ OutOfMemory) ⊎ ((size_limit ≤ size) × Refuses (refusal.TooWide size) stop)
 
 -- why a file has no tree: it is too large, none spells its text, which reading left at the offset, or memory ran out
 abbrev pub HasBadCause : List ℕ → Bad → Type 0

@@ -26,6 +26,3 @@ mod whole;
 
 pub use fault::{Construct, ParseFault};
 pub use whole::parse;
-
-#[cfg(test)]
-mod tests;

@@ -31,6 +31,3 @@ pub use token_kind::TokenKind;
 pub use tree::{Expr, Function, Pattern, Slot, Stmt, Tree};
 pub use value::string_value;
 pub use walk::{Gather, walk_tree};
-
-#[cfg(test)]
-mod tests;

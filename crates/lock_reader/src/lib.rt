@@ -7,8 +7,6 @@ mod fault;
 mod lock;
 mod owner;
 mod read;
-#[cfg(test)]
-mod tests;
 
 pub use fault::LockFault;
 pub use lock::{Lock, LockEntry};

@@ -1,34 +1,46 @@
 //! The call edges of an application, as they are printed.
-ghost use Rattle.std.specs.Prelude.{◌≡◌, ◌≤◌, ◌<◌, ◌++◌, ℕ, List, length, map, take, slice_get, None, Some, All, IfOk, OnOk};
+ghost use Rattle.std.specs.Prelude.{◌≡◌, ◌≤◌, ◌<◌, ◌++◌, ℕ, List, length, map, take, slice_get, None, Some, All, IfErr, IfOk, OnOk};
 ghost use Rattle.std.specs.Str.{IsAscii};
 ghost use Rattle.jam_base.specs.Files.{Files};
-ghost use Rattle.flow_rules.specs.Flows.{constraints_of};
 ghost use Rattle.jam_app.specs.Graphs as graphs;
-ghost use Rattle.jam_app.specs.Loading.{IsWhole, module_of};
+ghost use Rattle.composer.specs.Sizes.{size_limit};
+ghost use Rattle.jam_app.specs.Loading.{IsWhole, loaded_size, module_of};
 ghost use Rattle.jam_app.specs.Printing.{AreOfModule, call_in, edge_among, function_among, printed_of, spot_at, spot_of};
 ghost use Rattle.jam_app.specs.Loading.{IsAnalysed};
 ghost use Rattle.jam_app.specs.Rounds.{Ascend};
+ghost use Rattle.jam_app.specs.Stops.{StopsWide};
+ghost use Rattle.report_text.specs.Graph.{graph_text_of};
 
+use crate::Stop;
 use crate::answers::printed::{Printed, nowhere};
 use crate::loading::links::links_of;
 use crate::loading::loaded::Loaded;
-use composer::compose;
-use flow_rules::Constraints;
+use crate::loading::parts::{composed, parts_of};
+use composer::Graph;
 use jam_base::{Edge, FunctionRef, List, OutOfMemory, Place, Text};
 use report_text::{PathStep, Shown, graph_text};
 use std::alloc::Global;
 
 /// The call graph of the loaded modules, which go by their paths.
-pub(crate) fn printed_edges(alloc: Global, loaded: Vec<Loaded>) -> Result<Text, OutOfMemory>
+pub(crate) fn printed_edges(alloc: Global, loaded: Vec<Loaded>) -> Result<Text, Stop>
     requires sorted { Ascend (map (λ l. l.path) loaded.items) }
-    requires read { All IsAnalysed loaded.items }
-    ensures { IfOk result (λ text. (operand : List ℕ) (files : Files) → IsWhole operand files loaded.items → graphs.IsGraphText operand files text) }
+    requires analysed { All IsAnalysed loaded.items }
+    ensures text { IfOk result (λ text. (operand : List ℕ) (files : Files) → IsWhole operand files loaded.items → graphs.IsGraphText operand files text) }
+    ensures narrow { IfOk result (λ text. loaded_size loaded.items < size_limit) }
+    ensures wide { IfErr result (StopsWide (loaded_size loaded.items)) }
 {
     let links = links_of(alloc, loaded.as_slice())?;
     let printed = printed_modules(alloc, loaded.as_slice())?;
-    let constraints = all_constraints(alloc, loaded)?;
-    let graph = compose(alloc, constraints.as_slice(), links.as_slice())?;
-    let steps = shown_edges(alloc, printed.as_slice(), graph.edges())?;
+    let parts = parts_of(alloc, loaded)?;
+    let graph = composed(alloc, parts.as_slice(), links.as_slice())?;
+    Ok(printed_graph(alloc, printed.as_slice(), &graph)?)
+}
+
+// The call graph, as text.
+fn printed_graph(alloc: Global, printed: &[Printed], graph: &Graph) -> Result<Text, OutOfMemory>
+    ensures { IfOk result (λ text. text ≡ graph_text_of (map (edge_among printed.now) graph.now.edges)) }
+{
+    let steps = shown_edges(alloc, printed, graph.edges())?;
     graph_text(alloc, &List::of(steps))
 }
 
@@ -50,7 +62,7 @@ fn printed_module(alloc: Global, one: &Loaded) -> Result<Printed, OutOfMemory>
     ensures { IfOk result (λ printed. printed ≡ printed_of (module_of one.now)) }
 {
     let text = ascii(one.bytes.as_slice());
-    let functions = one.constraints.functions();
+    let functions = one.summary.functions();
     Printed::of(alloc, one.path.as_str(), text, functions)
 }
 
@@ -63,18 +75,6 @@ fn ascii(bytes: &[u8]) -> &str
         Ok(text) => text,
         Err(_) => "",
     }
-}
-
-// The constraints of the modules.
-fn all_constraints(alloc: Global, loaded: Vec<Loaded>) -> Result<Vec<Constraints>, OutOfMemory>
-    ensures { IfOk result (λ made. made.items ≡ map (λ l. l.constraints) loaded.items) }
-{
-    let mut made = Vec::new(alloc);
-    for one in loaded {
-        let Loaded { constraints, .. } = one;
-        made.push(constraints)?;
-    }
-    Ok(made)
 }
 
 // The edges, as they are printed. Edges of one module that stand together take one walk over its text.

@@ -56,6 +56,21 @@ fn too_large_text(alloc: Global, printed: &str, length: u64) -> Result<Text, Out
     Ok(Text::from_string(line))
 }
 
+/// That the modules are too wide for their composition.
+pub(crate) fn too_wide(alloc: Global, size: u128) -> Stop
+    ensures { Refuses (Refusal.TooWide size) result }
+{
+    let line = Line::of(too_wide_line(alloc, size));
+    Stop::Refused(Refusal::TooWide { size }, line)
+}
+
+fn too_wide_line(alloc: Global, size: u128) -> Result<Text, OutOfMemory>
+    ensures { IfOk result (λ made. made ≡ lines.too_wide_line size) }
+{
+    let line = format!(in alloc; "jam: too wide: {size}\n")?;
+    Ok(Text::from_string(line))
+}
+
 /// That no tree spells the text of a module, which reading left at the place.
 pub(crate) fn not_in_profile(alloc: Global, path: ModulePath, place: Place) -> Stop
     ensures { Refuses (Refusal.NotInProfile path place.offset) result }

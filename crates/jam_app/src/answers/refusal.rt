@@ -28,4 +28,10 @@ pub enum Refusal {
         /// The offset in bytes, from 0, at which reading stopped.
         at: u32,
     },
+    /// The modules are too wide for their composition.
+    TooWide {
+        /// Their size: 100, and for each module 1, its requires, twice its flows, 3 for each function and
+        /// its parameters, and 4 for each site and its arguments.
+        size: u128,
+    },
 }

@@ -23,5 +23,5 @@ pub(crate) fn graph<F: Folder, L: Ledger>(
     ensures counts { CountsFaults (F.faults folder.old) (F.faults folder.new) result }
 {
     let loaded = load(alloc, folder, operand, steps)?;
-    Ok(printed_edges(alloc, loaded)?)
+    printed_edges(alloc, loaded)
 }

@@ -1,6 +1,8 @@
 //! Links between loaded modules.
-ghost use Rattle.std.specs.Prelude.{◌≡◌, ◌↔◌, ◌≤◌, ℕ, [], length, map, Some, IfOk, OnOk};
-ghost use Rattle.jam_app.specs.Links.{Adds, LinksAmong, LinksBelow, LinksOf, StandsAt};
+ghost use Rattle.std.specs.Prelude.{◌≡◌, ◌↔◌, ◌≤◌, ℕ, [], length, map, All, Some, IfOk, OnOk};
+ghost use Rattle.composer.specs.Parts.{AreLinks};
+ghost use Rattle.jam_app.specs.Loading.{IsAnalysed};
+ghost use Rattle.jam_app.specs.Links.{Adds, AreUpTo, LeadFrom, LinksAmong, LinksBelow, LinksOf, MayAdd, StandsAt};
 ghost use Rattle.jam_app.specs.Rounds.{Ascend};
 
 use crate::loading::loaded::{Led, Loaded};
@@ -10,8 +12,10 @@ use std::alloc::Global;
 
 /// The links between the loaded modules, which go by their paths. Modules are given by their places.
 pub(crate) fn links_of(alloc: Global, loaded: &[Loaded]) -> Result<Vec<Link>, OutOfMemory>
-    requires { Ascend (map (λ l. l.path) loaded.now) }
-    ensures { IfOk result (λ links. Adds (LinksBelow loaded.now (length loaded.now)) [] links.items) }
+    requires sorted { Ascend (map (λ l. l.path) loaded.now) }
+    requires analysed { All IsAnalysed loaded.now }
+    ensures links { IfOk result (λ links. Adds (LinksBelow loaded.now (length loaded.now)) [] links.items) }
+    ensures ascend { IfOk result (λ links. AreLinks (map (λ l. l.summary.lists) loaded.now) links.items) }
 {
     if loaded.len() > 4294967295 {
         return Err(OutOfMemory);
@@ -33,7 +37,10 @@ fn push_links(
 ) -> Result<(), OutOfMemory>
     requires sorted { Ascend (map (λ l. l.path) loaded.now) }
     requires few { length loaded.now ≤ 4294967295 }
-    ensures { OnOk result (Adds (LinksAmong loaded.now m targets.now) links.old.items links.new.items) }
+    requires led { LeadFrom loaded.now m targets.now }
+    requires before { AreUpTo (map (λ l. l.summary.lists) loaded.now) m [] links.old.items }
+    ensures links { OnOk result (Adds (LinksAmong loaded.now m targets.now) links.old.items links.new.items) }
+    ensures behind { OnOk result (AreUpTo (map (λ l. l.summary.lists) loaded.now) m targets.now links.new.items) }
 {
     for led in targets {
         push_link(loaded, m, led, links)?;
@@ -45,7 +52,8 @@ fn push_links(
 fn push_link(loaded: &[Loaded], m: u32, led: &Led, links: &mut Vec<Link>) -> Result<(), OutOfMemory>
     requires sorted { Ascend (map (λ l. l.path) loaded.now) }
     requires few { length loaded.now ≤ 4294967295 }
-    ensures { OnOk result (Adds (LinksOf loaded.now m led.now) links.old.items links.new.items) }
+    ensures links { OnOk result (Adds (LinksOf loaded.now m led.now) links.old.items links.new.items) }
+    ensures one { OnOk result (MayAdd (length loaded.now) m led.now.offset links.old.items links.new.items) }
 {
     if let Some(target) = place_of_path(loaded, &led.path) {
         links.push(Link {

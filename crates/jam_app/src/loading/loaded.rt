@@ -1,16 +1,16 @@
 //! A module that is loaded.
-use flow_rules::Constraints;
+use flow_fold::Summary;
 use jam_base::ModulePath;
 use js_tree::Tree;
 
-/// A loaded module: its path, the bytes of its file, its tree, what the tree says of its values, and where
-/// its requires lead, by their offsets.
+/// A loaded module: its path, the bytes of its file, its tree, what is kept of what the tree says of its
+/// values, and where its requires lead, by their offsets.
 #[derive(Debug, Drop)]
 pub(crate) struct Loaded {
     pub(crate) path: ModulePath,
     pub(crate) bytes: Vec<u8>,
     pub(crate) tree: Tree,
-    pub(crate) constraints: Constraints,
+    pub(crate) summary: Summary,
     pub(crate) targets: Vec<Led>,
 }
 

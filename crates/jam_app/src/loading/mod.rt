@@ -2,6 +2,7 @@
 pub(crate) mod links;
 pub(crate) mod loaded;
 pub(crate) mod module;
+pub(crate) mod parts;
 pub(crate) mod rounds;
 pub(crate) mod size;
 pub(crate) mod source;

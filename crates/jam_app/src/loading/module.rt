@@ -1,10 +1,11 @@
 //! The modules of a round.
-ghost use Rattle.std.specs.Prelude.{◌≡◌, ◌≤◌, ◌++◌, ℕ, Option, map, All, IfErr, IfOk, OnOk};
+ghost use Rattle.std.specs.Prelude.{◌≡◌, ◌≤◌, ◌++◌, ℕ, Option, map, All, IfErr, IfOk, IfSome, OnOk};
 ghost use Rattle.std.specs.List.{filter_map};
 ghost use Rattle.std.specs.Option.{option_to_list};
 ghost use Rattle.jam_base.specs.Files.{Files};
-ghost use Rattle.flow_rules.specs.Flows.{constraints_of};
-ghost use Rattle.jam_app.specs.Loading.{IsAnalysed};
+ghost use Rattle.std.specs.List.Sorted.{IsStrictlySortedBy};
+ghost use Rattle.flow_rules.specs.Flows.{require_order};
+ghost use Rattle.jam_app.specs.Loading.{AreLed, IsAnalysed, IsSummaryOf};
 ghost use Rattle.js_tree.specs.Spells.{SpellsSome};
 ghost use Rattle.jam_app.specs.Reading as reading;
 ghost use Rattle.jam_app.specs.Reading.{HasBad, IsParsed, IsRead, IsRefusedFor, source_of};
@@ -15,7 +16,8 @@ use crate::answers::message::{not_in_profile, too_large};
 use crate::loading::loaded::{Led, Loaded};
 use crate::loading::source::{Source, module_path};
 use crate::loading::text::{Bad, tree_of};
-use flow_rules::{Constraints, Require, constraints};
+use flow_fold::{Summary, fold};
+use flow_rules::{Require, constraints};
 use jam_base::{Folder, ModulePath, OutOfMemory, Steps};
 use js_scopes::bind;
 use js_tree::Tree;
@@ -32,6 +34,7 @@ fn led_by<F: Folder>(
 ) -> Result<Option<Led>, Stop>
     ensures gives { Gives (λ m led. led ≡ reading.led_by m from.now require.now)
         (λ m owed. ⊥) (F.files folder.old) (F.faults folder.old) (F.faults folder.new) result }
+    ensures offset { IfOk result (λ led. IfSome led (λ l. l.offset ≡ require.now.offset)) }
     ensures same { F.files folder.new ≡ F.files folder.old }
     ensures counts { CountsFaults (F.faults folder.old) (F.faults folder.new) result }
 {
@@ -62,6 +65,8 @@ fn targets_of<F: Folder>(
     from: &ModulePath,
     requires_: &[Require],
 ) -> Result<Vec<Led>, Stop>
+    requires { IsStrictlySortedBy require_order requires_.now }
+    ensures led { IfOk result (λ targets. AreLed requires_.now targets.items) }
     ensures gives { Gives (λ m targets. targets.items ≡ filter_map (reading.led_by m from.now) requires_.now)
         (λ m owed. ⊥) (F.files folder.old) (F.faults folder.old) (F.faults folder.new) result }
     ensures same { F.files folder.new ≡ F.files folder.old }
@@ -75,13 +80,14 @@ fn targets_of<F: Folder>(
     Ok(targets)
 }
 
-// What a tree says of the values of its module.
-fn constraints_in(alloc: Global, tree: &Tree) -> Result<Constraints, OutOfMemory>
+// What is kept of what a tree says of the values of its module.
+fn summary_of(alloc: Global, tree: &Tree) -> Result<Summary, OutOfMemory>
     requires { SpellsSome tree.now }
-    ensures { IfOk result (λ made. made ≡ constraints_of tree.now) }
+    ensures { IfOk result (IsSummaryOf tree.now) }
 {
     let bindings = bind(alloc, tree)?;
-    constraints(alloc, tree, &bindings)
+    let made = constraints(alloc, tree, &bindings)?;
+    fold(alloc, made)
 }
 
 // What a module without a tree means for the run.
@@ -142,8 +148,8 @@ fn module_with<F: Folder>(alloc: Global, folder: &mut F, parsed: Parsed) -> Resu
     ensures same { F.files folder.new ≡ F.files folder.old }
     ensures counts { CountsFaults (F.faults folder.old) (F.faults folder.new) result }
 {
-    let constraints = constraints_in(alloc, &parsed.tree)?;
-    let requires_ = constraints.requires_();
+    let summary = summary_of(alloc, &parsed.tree)?;
+    let requires_ = summary.requires_();
     let targets = targets_of(alloc, folder, &parsed.source.path, requires_)?;
     let Parsed { source, tree } = parsed;
     let Source { path, bytes } = source;
@@ -151,7 +157,7 @@ fn module_with<F: Folder>(alloc: Global, folder: &mut F, parsed: Parsed) -> Resu
         path,
         bytes,
         tree,
-        constraints,
+        summary,
         targets,
     })
 }

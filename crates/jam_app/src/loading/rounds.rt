@@ -9,7 +9,7 @@ ghost use Rattle.jam_app.specs.Loading.{IsWhole};
 ghost use Rattle.jam_app.specs.Loading.{IsAnalysed};
 ghost use Rattle.jam_app.specs.BetweenRounds.{HoldsAnalysed, Stands, found_at};
 ghost use Rattle.jam_app.specs.Reading.{led_from};
-ghost use Rattle.jam_app.specs.Refusals.{IsRefusal};
+ghost use Rattle.jam_app.specs.Refusals.{IsLoadRefusal};
 ghost use Rattle.jam_app.specs.Rounds.{Ascend, byte_limit, module_limit};
 ghost use Rattle.jam_app.specs.Stops.{CountsFaults, Gives};
 
@@ -117,7 +117,7 @@ fn load_round<F: Folder, L: Ledger>(
     ensures held { OnOk result (HoldsAnalysed progress.new.modules) }
     ensures gives { Gives
         (λ m next. (operand : List ℕ) → Stands operand m progress.old round.items → Stands operand m progress.new next.items)
-        (λ m owed. (operand : List ℕ) → Stands operand m progress.old round.items → IsRefusal operand m owed)
+        (λ m owed. (operand : List ℕ) → Stands operand m progress.old round.items → IsLoadRefusal operand m owed)
         (F.files folder.old) (F.faults folder.old) (F.faults folder.new) result }
     ensures counted { OnOk result (progress.new.size.modules ≡ progress.old.size.modules + length round.items) }
     ensures modules { OnOk result (progress.new.size.modules ≤ module_limit) }
@@ -154,7 +154,7 @@ pub(crate) fn load<F: Folder, L: Ledger>(
     operand: &str,
     steps: &mut Steps<L>,
 ) -> Result<Vec<Loaded>, Stop>
-    ensures gives { Gives (λ m loaded. IsWhole operand.now m loaded.items) (IsRefusal operand.now)
+    ensures gives { Gives (λ m loaded. IsWhole operand.now m loaded.items) (IsLoadRefusal operand.now)
         (F.files folder.old) (F.faults folder.old) (F.faults folder.new) result }
     ensures sorted { IfOk result (λ loaded. Ascend (map (λ l. l.path) loaded.items)) }
     ensures analysed { IfOk result (λ loaded. All IsAnalysed loaded.items) }

@@ -2,7 +2,7 @@
 ghost use Rattle.std.specs.Prelude.{◌≡◌, ◌≤◌, ◌+◌, ◌++◌, ◌∷◌, [], ℕ, List, length, map, OnOk, Some};
 ghost use Rattle.jam_app.specs.Entries as entries;
 ghost use Rattle.jam_app.specs.Reading.{HasExcess, IsExcess, file_at, file_of, size_of};
-ghost use Rattle.jam_app.specs.Refusals.{IsRefusal};
+ghost use Rattle.jam_app.specs.Refusals.{IsLoadRefusal};
 ghost use Rattle.jam_app.specs.Rounds.{byte_limit, bytes_at, module_limit};
 ghost use Rattle.jam_app.specs.Stops.{CountsFaults, Gives};
 
@@ -37,7 +37,7 @@ pub(crate) fn entry_path<F: Folder>(
     operand: &str,
 ) -> Result<ModulePath, Stop>
     ensures gives { Gives (λ m path. entries.entry_path operand.now m ≡ Some path)
-        (IsRefusal operand.now) (F.files folder.old) (F.faults folder.old) (F.faults folder.new) result }
+        (IsLoadRefusal operand.now) (F.files folder.old) (F.faults folder.old) (F.faults folder.new) result }
     ensures same { F.files folder.new ≡ F.files folder.old }
     ensures counts { CountsFaults (F.faults folder.old) (F.faults folder.new) result }
 {

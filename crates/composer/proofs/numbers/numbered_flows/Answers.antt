@@ -9,8 +9,8 @@ use Rattle.composer.proofs.numbers.numbered_flows.Goals as goal
 pub loop-flow-init : goal.loop-flow-init
 loop-flow-init c = rw c.new-out.ensures.items (Numbers-none (map_arrow (vertex_at c.args.vertices.now)) (IsArrowIn (Below (length c.args.vertices.now))) c.args.flows.now)
 
-pub numbered_flow-requires-clause-members : goal.numbered_flow-requires-clause-members
-numbered_flow-requires-clause-members c = subst (IsArrowIn (Contains c.args.vertices.now)) (sym c.flow-item.is) (All-get_or (IsArrowIn (Contains c.args.vertices.now)) c.args.flows.now c.loop-flow.flow-index c.flow-item.result c.loop-flow-test.true c.requires.members)
+pub numbered_flow-requires : goal.numbered_flow-requires
+numbered_flow-requires c = subst (IsArrowIn (Contains c.args.vertices.now)) (sym c.flow-item.is) (All-get_or (IsArrowIn (Contains c.args.vertices.now)) c.args.flows.now c.loop-flow.flow-index c.flow-item.result c.loop-flow-test.true c.requires)
 
 pub loop-flow-preserved : goal.loop-flow-preserved
 loop-flow-preserved c =

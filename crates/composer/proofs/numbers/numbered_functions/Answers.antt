@@ -11,14 +11,14 @@ loop-k-init c =
     let vs = c.args.vertices.now in
     rw c.new-out.ensures.items (Numbers-none (map_callable (vertex_at vs) (value_at c.args.system.now)) (IsCallableIn (Below (length vs))) c.args.system.now.functions, HasPlaces-none)
 
-pub numbered_callable-requires-clause-members : goal.numbered_callable-requires-clause-members
-numbered_callable-requires-clause-members c =
+pub numbered_callable-requires : goal.numbered_callable-requires
+numbered_callable-requires c =
     let vs = c.args.vertices.now in
     let fs = c.args.system.now.functions in
     let f = c.index-functions-k.result in
     let lt : c.loop-k.k < length fs = subst (λ xs. c.loop-k.k < length xs) c.as_slice-functions.ensures c.loop-k-test.true in
     let is : f ≡ get_or fs c.loop-k.k f = c.index-functions-k.is ∙ ap (λ xs. get_or xs c.loop-k.k f) c.as_slice-functions.ensures in
-    subst (IsCallableIn (Contains vs)) (sym is) (All-get_or (IsCallableIn (Contains vs)) fs c.loop-k.k f lt c.requires.members)
+    subst (IsCallableIn (Contains vs)) (sym is) (All-get_or (IsCallableIn (Contains vs)) fs c.loop-k.k f lt c.requires)
 
 pub loop-k-preserved : goal.loop-k-preserved
 loop-k-preserved c =

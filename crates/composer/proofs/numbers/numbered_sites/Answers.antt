@@ -9,8 +9,8 @@ use Rattle.composer.proofs.numbers.numbered_sites.Goals as goal
 pub loop-site-init : goal.loop-site-init
 loop-site-init c = rw c.new-out.ensures.items (Numbers-none (map_site (vertex_at c.args.vertices.now)) (IsSiteIn (Below (length c.args.vertices.now))) c.args.sites.now)
 
-pub numbered_site-requires-clause-members : goal.numbered_site-requires-clause-members
-numbered_site-requires-clause-members c = subst (IsSiteIn (Contains c.args.vertices.now)) (sym c.site-item.is) (All-get_or (IsSiteIn (Contains c.args.vertices.now)) c.args.sites.now c.loop-site.site-index c.site-item.result c.loop-site-test.true c.requires.members)
+pub numbered_site-requires : goal.numbered_site-requires
+numbered_site-requires c = subst (IsSiteIn (Contains c.args.vertices.now)) (sym c.site-item.is) (All-get_or (IsSiteIn (Contains c.args.vertices.now)) c.args.sites.now c.loop-site.site-index c.site-item.result c.loop-site-test.true c.requires)
 
 pub loop-site-preserved : goal.loop-site-preserved
 loop-site-preserved c =

@@ -9,8 +9,8 @@ use Rattle.composer.proofs.numbers.numbers_of.Goals as goal
 pub loop-vertex-init : goal.loop-vertex-init
 loop-vertex-init c = rw c.new-out.ensures.items (Numbers-none (vertex_at c.args.vertices.now) (Below (length c.args.vertices.now)) c.args.some.now)
 
-pub number_of-requires-clause-member : goal.number_of-requires-clause-member
-number_of-requires-clause-member c = subst (Contains c.args.vertices.now) (sym c.vertex-item.is) (All-get_or (Contains c.args.vertices.now) c.args.some.now c.loop-vertex.vertex-index c.vertex-item.result c.loop-vertex-test.true c.requires.members)
+pub number_of-requires : goal.number_of-requires
+number_of-requires c = subst (Contains c.args.vertices.now) (sym c.vertex-item.is) (All-get_or (Contains c.args.vertices.now) c.args.some.now c.loop-vertex.vertex-index c.vertex-item.result c.loop-vertex-test.true c.requires)
 
 pub loop-vertex-preserved : goal.loop-vertex-preserved
 loop-vertex-preserved c =

@@ -2,4 +2,4 @@ use Rattle.std.proofs.Common.{◌≡◌, [], replicate}
 use Rattle.composer.proofs.sets.Sets.new.Given as goal
 
 abbrev pub invariant-loop : goal.invariant-loop
-invariant-loop l = l.rows.items ≡ replicate l.counter []
+invariant-loop l = l.sets.items ≡ replicate l.counter []

@@ -7,7 +7,7 @@ use Rattle.jam_app.proofs.loading.module.module_with.Goals as goal
 
 pub returns-clause-gives : goal.returns-clause-gives
 returns-clause-gives g c =
-    told (g.F.Folder.files c.args.folder.now) c.in_ok-targets.ensures.gives (λ m targets. (refl, is_read m _ c.requires c.in_ok-constraints.ensures (targets ∙ ap (filter_map (led_by m c.args.parsed.source.path)) c.requires_-requires_.ensures)))
+    told (g.F.Folder.files c.args.folder.now) c.in_ok-targets.ensures.gives (λ m targets. (refl, is_read m _ c.requires c.in_ok-summary.ensures (targets ∙ ap (filter_map (led_by m c.args.parsed.source.path)) c.requires_-requires_.ensures.requires_)))
 
-pub constraints_in-requires : goal.constraints_in-requires
-constraints_in-requires g c = (c.args.parsed.source.bytes.items, c.requires.spelled.spells)
+pub summary_of-requires : goal.summary_of-requires
+summary_of-requires g c = (c.args.parsed.source.bytes.items, c.requires.spelled.spells)

@@ -1,12 +1,14 @@
 use Rattle.std.proofs.Common.{◌≡◌, ◌≤◌, take}
 use Rattle.std.specs.List.{filter_map}
 use Rattle.std.specs.Option.{IfSome}
+use Rattle.jam_app.specs.Loading.{AreLed}
 use Rattle.jam_app.specs.Reading.{led_by}
 use Rattle.jam_app.proofs.loading.module.targets_of.Given as goal
 
 abbrev pub invariant-loop-require : goal.invariant-loop-require
 invariant-loop-require g l = record {
   led : IfSome (g.F.Folder.files l.fn.folder) (λ m. l.targets.items ≡ filter_map (led_by m l.from) (take l.require-index l.requires_));
+  lead : AreLed (take l.require-index l.requires_) l.targets.items;
   same : g.F.Folder.files l.folder ≡ g.F.Folder.files l.fn.folder;
   quiet : g.F.Folder.faults l.folder ≡ g.F.Folder.faults l.fn.folder;
 }

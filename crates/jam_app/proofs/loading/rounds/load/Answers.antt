@@ -2,7 +2,7 @@ use Rattle.std.proofs.Common.{◌≡◌, ◌<◌, [], ℕ, List, length, arith, 
 use Rattle.std.specs.Option.{IfSome}
 use Rattle.jam_app.specs.declared.loading.rounds.Progress.{Progress}
 use Rattle.jam_app.specs.BetweenRounds.{Stands}
-use Rattle.jam_app.specs.Refusals.{IsRefusal}
+use Rattle.jam_app.specs.Refusals.{IsLoadRefusal}
 use Rattle.jam_app.proofs.Ends.{is_nothing, not_empty}
 use Rattle.jam_app.proofs.Causes.{both_told, counts_on, handed_on, told}
 use Rattle.jam_app.proofs.Whole.{is_whole, listed_analysed, listed_ascend, nothing_held, stands_first}
@@ -47,7 +47,7 @@ pub returns-in_err-round-2-clause-gives : goal.returns-in_err-round-2-clause-giv
 returns-in_err-round-2-clause-gives g c =
     let inv = c.loop-alloc.invariant in
     let files = g.F.Folder.files c.args.folder.now in
-    handed_on _ (λ m owed. (operand : List ℕ) → Stands operand m c.loop-alloc.progress c.loop-alloc.round.items → IsRefusal operand m owed) _ files _ _ _ _ c.in_err-round-2.field-0.0 c.from_residual-in_err-round-2.result
+    handed_on _ (λ m owed. (operand : List ℕ) → Stands operand m c.loop-alloc.progress c.loop-alloc.round.items → IsLoadRefusal operand m owed) _ files _ _ _ _ c.in_err-round-2.field-0.0 c.from_residual-in_err-round-2.result
     c.from_residual-in_err-round-2.ensures.1 inv.same (omega (arith, inv.quiet)) (told files inv.stands (λ m stands owed refused. refused c.args.operand.now stands)) c.in_err-round-2.ensures.gives
 
 pub returns-clause-gives : goal.returns-clause-gives
