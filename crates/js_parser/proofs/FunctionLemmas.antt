@@ -1,5 +1,6 @@
 -- A function and its parameters as their parts, and a function made of parts.
 use Rattle.std.proofs.Common.{◌≡◌, ℕ, ◌+◌, ◌≤◌, max, map, Bool, true, false, ◌&&◌, not, List, [], ◌∷◌, Option, Some, None, is_some, refl, sym, ap, ◌∙◌, subst, arith, true≢false}
+use Rattle.std.proofs.lemmas.Bool.{and_from, and_parts}
 use Rattle.std.specs.List.{list_all}
 use Rattle.js_tree.specs.declared.lists.Block.{Block}
 use Rattle.js_tree.specs.declared.lists.Bracket.{Bracket}
@@ -101,14 +102,6 @@ parameter_at room x at = record { fits = at.0; height = refl; low = at.1 }
 abbrev pub parameters_height : Bracket Slot → ℕ
 parameters_height b = inside_height parameter_height b.front b.last
 
-both : (a b : Bool) → (a && b) ≡ true → (a ≡ true) × (b ≡ true)
-both true b e = (refl, e)
-both false b e = absurd (true≢false (sym e))
-
-joined : (a b : Bool) → a ≡ true → b ≡ true → (a && b) ≡ true
-joined true b e f = f
-joined false b e f = absurd (true≢false (sym e))
-
 -- what is asked of all parameters is asked of each
 abbrev AreGood : ℕ → List (Listed (Element Slot)) → Option (Element Slot) → Type 0
 AreGood room = Good parameter_line (IsParameter room) (λ x rest. Unit {0})
@@ -116,12 +109,12 @@ AreGood room = Good parameter_line (IsParameter room) (λ x rest. Unit {0})
 pub parameters_good : (room : ℕ) (b : Bracket Slot) (height : ℕ) → all_within fits b ≡ true → height ≡ parameters_height b → height ≤ room → AreGood room b.front b.last
 unfolding AllOf
 parameters_good room b height good is low =
-    let s = both _ _ good in
+    let s = and_parts _ _ good in
     record { each = each b.front s.0 (omega (arith, is, low)); end = end b.last s.1 (omega (arith, is, low)) }
   where
     each : (xs : List (Listed (Element Slot))) → list_all (λ x. fits x.item) xs ≡ true → tallest_of (λ x. parameter_height x.item) xs ≤ room → AllOf (λ (x : Listed (Element Slot)). IsParameter room x.item) xs
     each [] e h = tt
-    each (x ∷ xs) e h = let s = both _ _ e in ((s.0, omega (arith, h)), each xs s.1 (omega (arith, h)))
+    each (x ∷ xs) e h = let s = and_parts _ _ e in ((s.0, omega (arith, h)), each xs s.1 (omega (arith, h)))
 
     end : (o : Option (Element Slot)) → passes fits o ≡ true → last_height parameter_height o ≤ room → GoodLast parameter_line (IsParameter room) (λ x rest. Unit {0}) o
     end None e h = tt
@@ -132,11 +125,11 @@ unfolding AllOf
 good_parameters room b good =
     let e = each b.front good.each in
     let l = end b.last good.end in
-    (joined _ _ e.0 l.0, omega (arith, e.1, l.1))
+    (and_from _ _ e.0 l.0, omega (arith, e.1, l.1))
   where
     each : (xs : List (Listed (Element Slot))) → AllOf (λ (x : Listed (Element Slot)). IsParameter room x.item) xs → (list_all (λ x. fits x.item) xs ≡ true) × (tallest_of (λ x. parameter_height x.item) xs ≤ room)
     each [] a = (refl, omega arith)
-    each (x ∷ xs) a = let m = each xs a.1 in (joined _ _ a.0.0 m.0, omega (arith, a.0.1, m.1))
+    each (x ∷ xs) a = let m = each xs a.1 in (and_from _ _ a.0.0 m.0, omega (arith, a.0.1, m.1))
 
     end : (o : Option (Element Slot)) → GoodLast parameter_line (IsParameter room) (λ x rest. Unit {0}) o → (passes fits o ≡ true) × (last_height parameter_height o ≤ room)
     end None a = (refl, omega arith)
