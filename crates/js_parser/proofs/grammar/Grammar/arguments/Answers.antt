@@ -56,12 +56,12 @@ arguments-preserved g c =
     let t = both_not _ _ (sym c.goes_on.ensures ∙ c.arguments-test.true) in
     let w = c.in_ok-item.ensures.reads.found.1 in
     record {
-      within = within_more argument_line (IsArgument (c.args.self.now.room - 1)) AfterArgument _ _ _ _ _ _ c.in_ok-item.field-0.node c.in_ok-comma.comma _ _ t.0 c.arguments.invariant.within (goes (c.args.self.now.room - 1) _ _ c.kind.ensures t.1)
+      within = within_more argument_line (IsArgument (c.args.self.now.room - 1)) AfterArgument _ _ _ _ c.arguments.front c.arguments.last c.in_ok-item.field-0.node c.in_ok-comma.comma c.put.new.front c.put.new.last t.0 c.arguments.invariant.within (goes (c.args.self.now.room - 1) _ _ c.kind.ensures t.1)
           c.in_ok-item.ensures.reads.found.0 (w.stands, omega (arith, w.height, w.fits)) c.in_ok-item.ensures.reads.moves
           (λ y more n good after. let a = c.in_ok-item.ensures.reads.only (tall_argument y) more n (argument_at (c.args.self.now.room - 1) y good) after in (ap (λ (z : Tall (Element Expr)). z.node) a.0, a.1))
           c.in_ok-comma.ensures.reads.found.0 c.in_ok-comma.ensures.reads.moves (λ o more n after. c.in_ok-comma.ensures.reads.only o more n tt after) c.in_ok-put.ensures;
       height = c.higher-height.ensures ∙ (λ i. max (c.arguments.invariant.height i) (w.height i))
-          ∙ sym (puts_height argument_height c.in_ok-item.field-0.node c.in_ok-comma.comma _ _ _ _ c.in_ok-put.ensures t.0);
+          ∙ sym (puts_height argument_height c.in_ok-item.field-0.node c.in_ok-comma.comma c.arguments.front c.arguments.last c.put.new.front c.put.new.last c.in_ok-put.ensures t.0);
       shorter = omega (arith, c.arguments.invariant.shorter, c.in_ok-item.ensures.reads.shorter, c.in_ok-comma.ensures.reads.shorter);
     }
 
