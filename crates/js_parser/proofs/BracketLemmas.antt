@@ -1,5 +1,5 @@
 -- How items by commas in brackets are read, item by item.
-use Rattle.std.proofs.Common.{◌≡◌, ℕ, ◌+◌, ◌≤◌, max, Bool, true, false, ◌&&◌, not, List, [], ◌∷◌, ◌++◌, Option, Some, None, is_some, refl, sym, ap, ◌∙◌, subst, arith, append-nil, append_assoc, true≢false}
+use Rattle.std.proofs.Common.{◌≡◌, ℕ, ◌≤◌, max, Bool, true, false, ◌&&◌, not, List, [], ◌∷◌, ◌++◌, Option, Some, None, is_some, refl, sym, ap, ◌∙◌, subst, arith, append-nil, append_assoc, true≢false}
 use Rattle.std.specs.List.{list_all}
 use Rattle.js_tree.specs.declared.lists.Bracket.{Bracket}
 use Rattle.js_tree.specs.declared.lists.Element.{Element}
@@ -64,6 +64,14 @@ puts_height f x (Some mark) front None front' last' puts h =
     omega (arith, e, tallest-push (λ (y : Listed _). f y.item) front (record { item = x; mark = mark }))
 
 -- TESTS
+
+pub both : (a b : Bool) → (a && b) ≡ true → (a ≡ true) × (b ≡ true)
+both true b e = (refl, e)
+both false b e = absurd (true≢false (sym e))
+
+pub joined : (a b : Bool) → a ≡ true → b ≡ true → (a && b) ≡ true
+joined true b e f = f
+joined false b e f = absurd (true≢false (sym e))
 
 pub both_not : (a b : Bool) → (not a && not b) ≡ true → (a ≡ false) × (b ≡ false)
 both_not false false e = (refl, refl)
@@ -230,14 +238,6 @@ module _ {X : Type 0} (item : X → Onto) (P : X → Type 0) (Stops : X → List
       whole l (y ∷ ys) e r g = absurd (ends refl y.item (Tok y.mark (is kinds.Comma) ∷ inside ys l (closing close more)) r g.each.0)
 
 -- WHAT IS ASKED OF ALL
-
-both : (a b : Bool) → (a && b) ≡ true → (a ≡ true) × (b ≡ true)
-both true b e = (refl, e)
-both false b e = absurd (true≢false (sym e))
-
-joined : (a b : Bool) → a ≡ true → b ≡ true → (a && b) ≡ true
-joined true b e f = f
-joined false b e f = absurd (true≢false (sym e))
 
 module _ {Y : Type 0} (item : Element Y → Onto) (fits : Element Y → Bool) (height : Element Y → ℕ) (room : ℕ) (Stops : Element Y → List Piece → Type 0) where
   -- an item passes the test and is no taller than the room

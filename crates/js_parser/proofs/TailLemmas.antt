@@ -1,12 +1,12 @@
--- Which tail begins with which token.
-use Rattle.std.proofs.Common.{◌≡◌, ◌⊎◌, inl, inr, ℕ, ◌≤◌, max, Bool, true, false, ◌&&◌, ◌||◌, not, List, [], ◌∷◌, refl, sym, ap, ◌∙◌, subst, arith, true≢false}
+-- Tails: which begins with which token, the names of members, and what is asked of several.
+use Rattle.std.proofs.Common.{◌≡◌, ◌⊎◌, inl, inr, ℕ, ◌≤◌, Bool, true, false, ◌&&◌, ◌||◌, not, List, [], ◌∷◌, refl, sym, ap, ◌∙◌, subst, arith, true≢false}
 use Rattle.std.specs.List.{list_all}
 use Rattle.std.specs.Prelude.{codes}
 use Rattle.std.specs.Str.{bytes_eq}
 use Rattle.std.proofs.lemmas.Slice.Eq.{bytes_eq-Decides}
 use Rattle.js_tree.specs.Lexical.{Next}
 use Rattle.js_tree.specs.Lexing.{Place}
-use Rattle.js_tree.specs.Operators.{is_member_name, is_word}
+use Rattle.js_tree.specs.Operators.{is_member_name}
 use Rattle.js_tree.specs.Pieces.{Piece, Tok, kind as kind_of}
 use Rattle.js_tree.specs.Spelling.{expr, tallest_of}
 use Rattle.js_tree.specs.Spelling.Chains.{is_call}
@@ -30,9 +30,10 @@ use Rattle.js_tree.proofs.SpellingLemmas.{expr_layer, of_expr}
 use Rattle.js_tokens.specs.Ahead.{IsNextKind, reads}
 use Rattle.js_tokens.specs.Pieces.{Reads}
 use Rattle.js_tokens.specs.declared.goal.Goal.TheVariants as goal
+use Rattle.js_parser.proofs.BracketLemmas.{both, joined}
 use Rattle.js_parser.proofs.HeadLemmas.{one_told, plain_told}
 use Rattle.js_parser.proofs.ListLemmas.{AllOf}
-use Rattle.js_parser.proofs.TokenLemmas.{told}
+use Rattle.js_parser.proofs.TokenLemmas.{implies, told}
 use Rattle.js_parser.specs.Following.{Leads, NoKind, begins_tail}
 use Rattle.js_parser.specs.Nodes.{ArgumentsAt, TailAt, TailsAt, TemplateAt, arguments_line, expr_line, may_call, names_eval, tail_height, tail_line, tail_stands, template_line}
 use Rattle.js_parser.specs.declared.tall.Tall.{Tall}
@@ -53,6 +54,10 @@ tail_begins p (tail.Template t) rest k next r = by_parts t.parts r
     by_parts : (parts : List (Listed Expr)) → Reads p (Tok t.head (template_head parts) ∷ template_parts pieces expr_line parts rest) → (k ≡ kinds.TemplateWhole) ⊎ (k ≡ kinds.TemplateHead)
     by_parts [] m = inl (one_told p k kinds.TemplateWhole t.head rest next refl m)
     by_parts (x ∷ xs) m = inr (one_told p k kinds.TemplateHead t.head (template_parts pieces expr_line (x ∷ xs) rest) next refl m)
+
+-- the line of a tail that is this one
+pub line_of : (p : Place) (x t : Tail Expr) (rest : List Piece) → x ≡ t → Reads p (tail_line x rest) → Reads p (tail_line t rest)
+line_of p x t rest e r = subst (λ (u : Tail Expr). Reads p (tail_line u rest)) e r
 
 -- a tail that begins with `.` is a member by its name
 pub as_member : (t : Tail Expr) → begins t kinds.Dot → (dot : Token) × (name : Token) × (t ≡ tail.Member dot name)
@@ -98,7 +103,7 @@ call_view room p k next here x rest at r =
     record {
       args = v.0;
       node = v.1;
-      read = subst (λ (t : Tail Expr). Reads p (tail_line t rest)) v.1 r;
+      read = line_of p x.node _ rest v.1 r;
       at = record { each = sym (ap tail_stands v.1) ∙ at.stands; height = at.height ∙ ap tail_height v.1; fits = at.fits };
     }
 
@@ -116,7 +121,7 @@ template_view room p k next dot bracket paren x rest at r =
     record {
       inner = v.0;
       node = v.1;
-      read = subst (λ (t : Tail Expr). Reads p (tail_line t rest)) v.1 r;
+      read = line_of p x.node _ rest v.1 r;
       at = record { each = sym (ap tail_stands v.1) ∙ at.stands; height = at.height ∙ ap tail_height v.1; fits = at.fits };
     }
 
@@ -141,17 +146,13 @@ eval_by_kind x = ap (is_named (codes "eval")) (of_expr x) ∙ eval_layer (out-Ex
 
 -- MEMBERS
 
-implied : (a b : Bool) → (not a || b) ≡ true → a ≡ true → b ≡ true
-implied true b h e = h
-implied false b h e = absurd (true≢false (sym e))
-
 member_check : TokenKind → Bool
 member_check k = not (is_member_name k) || reads goal.Operator k
 
 -- the goal Operator reads the names of members
 pub member_plain : (k : TokenKind) → is_member_name k ≡ true → reads goal.Operator k ≡ true
 unfolding member_check
-member_plain k e = implied (is_member_name k) _ (every member_check refl k) e
+member_plain k e = implies (is_member_name k) _ (every member_check refl k) e
 
 -- no name of a member stands where another token is told
 pub no_member : (p : Place) (k : TokenKind) → IsNextKind p k → is_member_name k ≡ false → (name : Token) (rest : List Piece) → Reads p (Tok name is_member_name ∷ rest) → ⊥
@@ -171,14 +172,6 @@ IsTail calls room t = ((tail_stands t && may_call calls t) ≡ true) × (tail_he
 -- with its height
 abbrev pub tall_tail : Tail Expr → Tall (Tail Expr)
 tall_tail t = record { node = t; height = tail_height t }
-
-both : (a b : Bool) → (a && b) ≡ true → (a ≡ true) × (b ≡ true)
-both true b e = (refl, e)
-both false b e = absurd (true≢false (sym e))
-
-joined : (a b : Bool) → a ≡ true → b ≡ true → (a && b) ≡ true
-joined true b e f = f
-joined false b e f = absurd (true≢false (sym e))
 
 pub tail_at : (calls : Bool) (room : ℕ) (t : Tail Expr) → IsTail calls room t → TailAt room (tall_tail t)
 tail_at calls room t good = record { stands = (both _ _ good.0).0; height = refl; fits = good.1 }

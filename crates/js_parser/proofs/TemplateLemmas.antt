@@ -1,5 +1,5 @@
 -- The substitutions of a template, read one by one, each with the part behind it.
-use Rattle.std.proofs.Common.{◌≡◌, ◌⊎◌, ⊎_elim, inl, inr, ℕ, zero, suc, ◌≤◌, max, Bool, true, false, ◌&&◌, not, List, [], ◌∷◌, ◌++◌, refl, sym, ap, ◌∙◌, subst, arith, append_assoc, get_or, true≢false, Result, Ok, Err, IfOk}
+use Rattle.std.proofs.Common.{◌≡◌, ◌⊎◌, ⊎_elim, inl, inr, ℕ, zero, suc, ◌≤◌, max, Bool, true, false, not, List, [], ◌∷◌, ◌++◌, refl, sym, ap, ◌∙◌, subst, arith, append_assoc, get_or, true≢false, Result, Ok, Err, IfOk}
 use Rattle.std.specs.List.{list_all}
 use Rattle.js_tree.specs.declared.lists.Listed.{Listed}
 use Rattle.js_tree.specs.declared.lists.Template.{Template}
@@ -23,23 +23,16 @@ use Rattle.js_tokens.specs.Ahead.{Blind, IsNextKind, IsTwin, reads}
 use Rattle.js_tokens.specs.Pieces.{Reads, Read, Passes}
 use Rattle.js_tokens.specs.declared.fault.TokenFault.{TokenFault}
 use Rattle.js_tokens.specs.declared.goal.Goal.TheVariants as goal
+use Rattle.js_parser.proofs.BracketLemmas.{both, joined}
 use Rattle.js_parser.proofs.ExprLemmas.{value_of, value_at}
 use Rattle.js_parser.proofs.HeadLemmas.{one_told, plain_told}
-use Rattle.js_parser.proofs.ListLemmas.{AllOf}
+use Rattle.js_parser.proofs.ListLemmas.{AllOf, good-push}
+use Rattle.js_parser.proofs.OperandLemmas.{some_pushed}
 use Rattle.js_parser.proofs.PlaceLemmas.{passes_none, passes_on}
 use Rattle.js_parser.proofs.ReadLemmas.{IsWant}
-use Rattle.js_parser.proofs.TokenLemmas.{told}
 use Rattle.js_parser.specs.Following.{Stops, is_part, strength}
 use Rattle.js_parser.specs.Nodes.{SubstitutionsAt, TemplateAt, ValueAt, expr_line, higher, substitution_stands, template_line}
 use Rattle.js_parser.specs.declared.tall.Tall.{Tall}
-
-both : (a b : Bool) → (a && b) ≡ true → (a ≡ true) × (b ≡ true)
-both true b e = (refl, e)
-both false b e = absurd (true≢false (sym e))
-
-joined : (a b : Bool) → a ≡ true → b ≡ true → (a && b) ≡ true
-joined true b e f = f
-joined false b e f = absurd (true≢false (sym e))
 
 abbrev pub parts_line : List (Listed Expr) → Onto
 parts_line = template_parts pieces expr_line
@@ -220,11 +213,6 @@ front_whole [] rest = refl
 front_whole (x ∷ []) rest = refl
 front_whole (x ∷ y ∷ ys) rest = ap (λ ps. expr_line x.item (Tok x.mark (is kinds.TemplateMiddle) ∷ ps)) (front_whole (y ∷ ys) rest)
 
-good_push : (room : ℕ) (xs : List (Listed Expr)) (x : Listed Expr) → AllOf (IsSubstitution room) xs → IsSubstitution room x → AllOf (IsSubstitution room) (xs ++ x ∷ [])
-unfolding AllOf
-good_push room [] x a g = (g, tt)
-good_push room (y ∷ ys) x a g = (a.0, good_push room ys x a.1 g)
-
 -- a further substitution, with what follows it
 pub record FurtherPart (room : ℕ) (front xs : List (Listed Expr)) (m : Place) (rest : List Piece) : Type 0 where
   pub next : Listed Expr
@@ -261,10 +249,6 @@ part_kind kinds.TemplateMiddle e = refl
 part_kind kinds.TemplateTail e = refl
 part_kind _ e = absurd (true≢false (sym e))
 
-pushed_some : {A : Type 0} (xs : List A) (x : A) → is_empty (xs ++ x ∷ []) ≡ false
-pushed_some [] x = refl
-pushed_some (y ∷ ys) x = refl
-
 -- one more substitution and the part behind it
 pub parts_more : (room : ℕ) (p m n k : Place) (front : List (Listed Expr)) (x : Listed Expr) → Parts room p front true m → Read m (expr_line x.item) n → IsSubstitution room x → Passes m n
     → Next n x.mark k → is_part (kind_of x.mark) ≡ true → Passes n k
@@ -275,8 +259,8 @@ unfolding AllOf
 parts_more room p m n k front x before found good passes next part past only one = record {
   found = λ rest r. subst (λ (ps : List Piece). Reads p ps) (sym (front_push (is kinds.TemplateMiddle (kind_of x.mark)) front x rest))
       (before.found (expr_line x.item (Tok x.mark (is (last_part (is kinds.TemplateMiddle (kind_of x.mark)))) ∷ rest)) (found (Tok x.mark (is (last_part (is kinds.TemplateMiddle (kind_of x.mark)))) ∷ rest) (k, next, fits, r)));
-  good = good_push room front x before.good good;
-  some = λ e. pushed_some front x;
+  good = good-push (λ (y : Listed Expr) (ps : List Piece). ps) (IsSubstitution room) (λ ps. Unit {0}) (λ y ps. Unit {0}) front x before.good good;
+  some = λ e. some_pushed front x;
   only = λ xs rest r a some. let f = before.only xs rest r a some in onward xs rest f.next f.others f.same f.read f.good f.each;
   passes = passes_on p m k before.passes (passes_on m n k passes past);
 }

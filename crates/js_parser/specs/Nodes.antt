@@ -1,5 +1,5 @@
 -- What each rule of the grammar reads, and what must hold of it.
-use Rattle.std.specs.Prelude.{◌≡◌, ℕ, ◌+◌, ◌≤◌, ◌<◌, ◌==◌, nat_le, max, List, [], ◌∷◌, length, Option, Some, None, is_some, ◌⊎◌, Result, IfOk, IfErr, Bool, true, false, ◌&&◌, ◌||◌, not, codes}
+use Rattle.std.specs.Prelude.{◌≡◌, ℕ, ◌+◌, ◌≤◌, ◌<◌, ◌==◌, nat_le, max, List, [], ◌∷◌, length, Option, is_some, ◌⊎◌, Result, IfOk, IfErr, Bool, true, false, ◌&&◌, ◌||◌, not, codes}
 use Rattle.std.specs.List.{list_all}
 use Rattle.std.specs.Str.{bytes_eq}
 use Rattle.std.specs.declared.alloc.Global.{Global}

@@ -1,4 +1,4 @@
-use Rattle.std.proofs.Common.{◌≡◌, ap}
+use Rattle.std.proofs.Common.{ap}
 use Rattle.std.specs.Prelude.{nat_le}
 use Rattle.js_tree.specs.TokenKinds.{code}
 use Rattle.js_tree.specs.declared.token_kind.TokenKind.TheVariants as kinds

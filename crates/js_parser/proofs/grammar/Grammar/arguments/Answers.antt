@@ -1,7 +1,6 @@
 use Rattle.js_tokens.specs.declared.fault.TokenFault.TheVariants as fault
-use Rattle.std.proofs.Common.{◌≡◌, ◌<◌, ◌≤◌, ◌+◌, ◌-◌, ℕ, max, refl, sym, ap, ◌∙◌, subst, arith, List, [], ◌∷◌, ◌++◌, Option, Some, None, is_some, false, true}
-use Rattle.js_tree.specs.Pieces.{Piece, Onto}
-use Rattle.js_tree.specs.TokenKinds.{is}
+use Rattle.std.proofs.Common.{◌≡◌, ◌-◌, ℕ, max, sym, ap, ◌∙◌, subst, arith, List, None}
+use Rattle.js_tree.specs.Pieces.{Onto}
 use Rattle.js_tree.specs.declared.lists.Bracket.{Bracket}
 use Rattle.js_tree.specs.declared.lists.Element.{Element}
 use Rattle.js_tree.specs.declared.lists.Listed.{Listed}
@@ -35,9 +34,9 @@ returns-in_err-item g c = record {
       (λ x rest r at s.
       let t = both_not _ _ (sym c.goes_on.ensures ∙ c.arguments-test.true) in
       let g0 = c.in_ok-open.ensures.only x.node.«open» (behind_open (c.args.self.now.room - 1) x rest) r tt tt in
-      item_refused argument_line (IsArgument _) AfterArgument _ _ _ _ _ t.0 c.arguments.invariant.within (goes _ _ _ c.kind.ensures t.1)
-      (λ y more n good after. want _ _ _ (c.in_err-item.ensures.reads.only (tall_argument y) more n (argument_at _ y good) after))
-      x.node.front x.node.last x.node.close rest g0.1 (good_in _ x at)) c.from_residual-in_err-item.ensures.1;
+      item_refused argument_line (IsArgument (c.args.self.now.room - 1)) AfterArgument _ _ _ _ _ t.0 c.arguments.invariant.within (goes (c.args.self.now.room - 1) _ _ c.kind.ensures t.1)
+      (λ y more n good after. want _ _ _ (c.in_err-item.ensures.reads.only (tall_argument y) more n (argument_at (c.args.self.now.room - 1) y good) after))
+      x.node.front x.node.last x.node.close rest g0.1 (good_in (c.args.self.now.room - 1) x at)) c.from_residual-in_err-item.ensures.1;
 }
 
 pub returns-in_err-comma : goal.returns-in_err-comma
@@ -46,10 +45,10 @@ returns-in_err-comma g c = record {
       (λ x rest r at s.
       let t = both_not _ _ (sym c.goes_on.ensures ∙ c.arguments-test.true) in
       let g0 = c.in_ok-open.ensures.only x.node.«open» (behind_open (c.args.self.now.room - 1) x rest) r tt tt in
-      comma_refused argument_line (IsArgument _) AfterArgument _ _ _ _ _ c.in_ok-item.field-0.node _ t.0 c.arguments.invariant.within (goes _ _ _ c.kind.ensures t.1)
-      (λ y more n good after. let a = c.in_ok-item.ensures.reads.only (tall_argument y) more n (argument_at _ y good) after in (ap (λ (z : Tall (Element Expr)). z.node) a.0, a.1))
+      comma_refused argument_line (IsArgument (c.args.self.now.room - 1)) AfterArgument _ _ _ _ _ c.in_ok-item.field-0.node _ t.0 c.arguments.invariant.within (goes (c.args.self.now.room - 1) _ _ c.kind.ensures t.1)
+      (λ y more n good after. let a = c.in_ok-item.ensures.reads.only (tall_argument y) more n (argument_at (c.args.self.now.room - 1) y good) after in (ap (λ (z : Tall (Element Expr)). z.node) a.0, a.1))
       (λ o more n after. want _ _ _ (c.in_err-comma.ensures.reads.only o more n tt after))
-      x.node.front x.node.last x.node.close rest g0.1 (good_in _ x at)) c.from_residual-in_err-comma.ensures.1;
+      x.node.front x.node.last x.node.close rest g0.1 (good_in (c.args.self.now.room - 1) x at)) c.from_residual-in_err-comma.ensures.1;
 }
 
 pub arguments-preserved : goal.arguments-preserved
@@ -57,12 +56,12 @@ arguments-preserved g c =
     let t = both_not _ _ (sym c.goes_on.ensures ∙ c.arguments-test.true) in
     let w = c.in_ok-item.ensures.reads.found.1 in
     record {
-      within = within_more argument_line (IsArgument _) AfterArgument _ _ _ _ _ _ c.in_ok-item.field-0.node c.in_ok-comma.comma _ _ t.0 c.arguments.invariant.within (goes _ _ _ c.kind.ensures t.1)
+      within = within_more argument_line (IsArgument (c.args.self.now.room - 1)) AfterArgument _ _ _ _ c.arguments.front c.arguments.last c.in_ok-item.field-0.node c.in_ok-comma.comma c.put.new.front c.put.new.last t.0 c.arguments.invariant.within (goes (c.args.self.now.room - 1) _ _ c.kind.ensures t.1)
           c.in_ok-item.ensures.reads.found.0 (w.stands, omega (arith, w.height, w.fits)) c.in_ok-item.ensures.reads.moves
-          (λ y more n good after. let a = c.in_ok-item.ensures.reads.only (tall_argument y) more n (argument_at _ y good) after in (ap (λ (z : Tall (Element Expr)). z.node) a.0, a.1))
+          (λ y more n good after. let a = c.in_ok-item.ensures.reads.only (tall_argument y) more n (argument_at (c.args.self.now.room - 1) y good) after in (ap (λ (z : Tall (Element Expr)). z.node) a.0, a.1))
           c.in_ok-comma.ensures.reads.found.0 c.in_ok-comma.ensures.reads.moves (λ o more n after. c.in_ok-comma.ensures.reads.only o more n tt after) c.in_ok-put.ensures;
       height = c.higher-height.ensures ∙ (λ i. max (c.arguments.invariant.height i) (w.height i))
-          ∙ sym (puts_height argument_height c.in_ok-item.field-0.node c.in_ok-comma.comma _ _ _ _ c.in_ok-put.ensures t.0);
+          ∙ sym (puts_height argument_height c.in_ok-item.field-0.node c.in_ok-comma.comma c.arguments.front c.arguments.last c.put.new.front c.put.new.last c.in_ok-put.ensures t.0);
       shorter = omega (arith, c.arguments.invariant.shorter, c.in_ok-item.ensures.reads.shorter, c.in_ok-comma.ensures.reads.shorter);
     }
 
@@ -74,9 +73,9 @@ returns-in_err-close g c = record {
   reads = failed _ _ _ _ _ _ _ _ (passes_on _ _ _ c.in_ok-open.ensures.moves c.arguments.invariant.within.passes) c.in_err-close.ensures.moves
       (λ x rest r at s.
       let g0 = c.in_ok-open.ensures.only x.node.«open» (behind_open (c.args.self.now.room - 1) x rest) r tt tt in
-      let a = within_all argument_line (IsArgument _) AfterArgument _ _ _ _ c.arguments.invariant.within
+      let a = within_all argument_line (IsArgument (c.args.self.now.room - 1)) AfterArgument _ _ _ _ c.arguments.invariant.within
       (λ none y more n good. no_argument _ _ c.kind.ensures (not_both _ _ (sym c.goes_on.ensures ∙ c.arguments-test.false) none) y more n)
-      x.node.front x.node.last x.node.close rest g0.1 (good_in _ x at) in
+      x.node.front x.node.last x.node.close rest g0.1 (good_in (c.args.self.now.room - 1) x at) in
       want _ _ _ (c.in_err-close.ensures.only x.node.close rest a.2 tt tt)) c.from_residual-in_err-close.ensures.1;
 }
 
@@ -94,9 +93,9 @@ returns g c =
         );
         only = λ x rest r at s.
             let g0 = c.in_ok-open.ensures.only x.node.«open» (behind_open (c.args.self.now.room - 1) x rest) r tt tt in
-            let a = within_all argument_line (IsArgument _) AfterArgument _ _ _ _ c.arguments.invariant.within
+            let a = within_all argument_line (IsArgument (c.args.self.now.room - 1)) AfterArgument _ _ _ _ c.arguments.invariant.within
             (λ none y more n good. no_argument _ _ c.kind.ensures (not_both _ _ (sym c.goes_on.ensures ∙ c.arguments-test.false) none) y more n)
-            x.node.front x.node.last x.node.close rest g0.1 (good_in _ x at) in
+            x.node.front x.node.last x.node.close rest g0.1 (good_in (c.args.self.now.room - 1) x at) in
             let g1 = c.in_ok-close.ensures.only x.node.close rest a.2 tt tt in
             let h : c.arguments.height ≡ x.height = c.arguments.invariant.height ∙ (λ i. inside_height argument_height (a.0 i) (a.1 i)) ∙ sym (at.height ∙ arguments_tall x.node) in
             (λ i. record { node = record { «open» = g0.0 i; front = a.0 i; last = a.1 i; close = g1.0 i }; height = h i }, g1.1);

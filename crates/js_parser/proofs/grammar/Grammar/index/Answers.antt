@@ -1,5 +1,4 @@
-use Rattle.std.proofs.Common.{◌≡◌, ◌-◌, ℕ, refl, sym, ap, ◌∙◌, subst, arith, true≢false, List, true, max}
-use Rattle.js_tree.specs.Lexing.{Place}
+use Rattle.std.proofs.Common.{◌≡◌, ℕ, refl, sym, ap, ◌∙◌, arith, true≢false, List, max}
 use Rattle.js_tree.specs.Pieces.{Piece}
 use Rattle.js_tree.specs.Spelling.{expr}
 use Rattle.js_tree.specs.Spelling.Nodes.{pieces}
@@ -9,24 +8,20 @@ use Rattle.js_tree.specs.declared.lists.Tail.TheVariants as tail
 use Rattle.js_tree.specs.declared.token.Token.{Token}
 use Rattle.js_tree.specs.declared.token_kind.TokenKind.TheVariants as kinds
 use Rattle.js_tree.specs.declared.tree.Expr.{Expr}
-use Rattle.js_tokens.specs.Pieces.{Reads}
 use Rattle.js_parser.proofs.ExprLemmas.{value_of, value_at}
 use Rattle.js_parser.proofs.MadeLemmas.{mark_read}
 use Rattle.js_parser.proofs.ParenLemmas.{stops_mark}
 use Rattle.js_parser.proofs.PlaceLemmas.{passes_none, passes_on}
 use Rattle.js_parser.proofs.ReadLemmas.{want, failed}
-use Rattle.js_parser.proofs.TailLemmas.{tail_begins, as_index}
+use Rattle.js_parser.proofs.TailLemmas.{line_of, tail_begins, as_index}
 use Rattle.js_parser.specs.Following.{Stops}
-use Rattle.js_parser.specs.Nodes.{ValueAt, TailAt, expr_line, tail_line, tail_stands, tail_height}
+use Rattle.js_parser.specs.Nodes.{ValueAt, TailAt, expr_line, tail_stands, tail_height}
 use Rattle.js_parser.specs.declared.tall.Tall.{Tall}
 use Rattle.js_parser.proofs.grammar.Grammar.index.Goals as goal
 
 value_in : (room : ℕ) (x : Tall (Tail Expr)) (begin : Token) (value : Expr) (end : Token) → x.node ≡ tail.Index begin value end → TailAt room x → ValueAt 0 room (value_of value)
 value_in room x begin value end e at =
     value_at 0 room value (sym (ap tail_stands e) ∙ at.stands) (let h : tail_height x.node ≡ max (expr value).height 0 = ap tail_height e in omega (arith, h, at.height, at.fits))
-
-line : (p : Place) (x : Tall (Tail Expr)) (rest : List Piece) (t : Tail Expr) → x.node ≡ t → Reads p (tail_line x.node rest) → Reads p (tail_line t rest)
-line p x rest t e r = subst (λ (u : Tail Expr). Reads p (tail_line u rest)) e r
 
 stops : (end : Token) (rest : List Piece) → Stops 0 (mark pieces kinds.RightBracket end rest)
 stops end rest = stops_mark 0 kinds.RightBracket end rest refl (λ nl. omega arith)
@@ -36,14 +31,14 @@ returns-in_err-open-clause-reads g c =
     failed _ _ _ _ _ _ _ _ (passes_none _) c.in_err-open.ensures.moves
     (λ x rest r at s.
     let v = as_index x.node (tail_begins _ x.node rest _ c.requires.told r) in
-    want _ _ _ (c.in_err-open.ensures.only v.0 (expr_line v.1 (mark pieces kinds.RightBracket v.2 rest)) (line _ x rest _ v.3 r) tt tt)) c.from_residual.ensures.1
+    want _ _ _ (c.in_err-open.ensures.only v.0 (expr_line v.1 (mark pieces kinds.RightBracket v.2 rest)) (line_of _ x.node _ rest v.3 r) tt tt)) c.from_residual.ensures.1
 
 pub returns-in_err-value-clause-reads : goal.returns-in_err-value-clause-reads
 returns-in_err-value-clause-reads g c =
     failed _ _ _ _ _ _ _ _ c.in_ok-open.ensures.moves c.in_err-value.ensures.reads.moves
     (λ x rest r at s.
     let v = as_index x.node (tail_begins _ x.node rest _ c.requires.told r) in
-    let g0 = c.in_ok-open.ensures.only v.0 (expr_line v.1 (mark pieces kinds.RightBracket v.2 rest)) (line _ x rest _ v.3 r) tt tt in
+    let g0 = c.in_ok-open.ensures.only v.0 (expr_line v.1 (mark pieces kinds.RightBracket v.2 rest)) (line_of _ x.node _ rest v.3 r) tt tt in
     want _ _ _ (c.in_err-value.ensures.reads.only (value_of v.1) (mark pieces kinds.RightBracket v.2 rest) g0.1 (value_in _ x v.0 v.1 v.2 v.3 at) (stops v.2 rest))) c.from_residual-in_err-value.ensures.1
 
 pub returns-in_err-close-clause-reads : goal.returns-in_err-close-clause-reads
@@ -51,7 +46,7 @@ returns-in_err-close-clause-reads g c =
     failed _ _ _ _ _ _ _ _ (passes_on _ _ _ c.in_ok-open.ensures.moves c.in_ok-value.ensures.reads.moves) c.in_err-close.ensures.moves
     (λ x rest r at s.
     let v = as_index x.node (tail_begins _ x.node rest _ c.requires.told r) in
-    let g0 = c.in_ok-open.ensures.only v.0 (expr_line v.1 (mark pieces kinds.RightBracket v.2 rest)) (line _ x rest _ v.3 r) tt tt in
+    let g0 = c.in_ok-open.ensures.only v.0 (expr_line v.1 (mark pieces kinds.RightBracket v.2 rest)) (line_of _ x.node _ rest v.3 r) tt tt in
     let g1 = c.in_ok-value.ensures.reads.only (value_of v.1) (mark pieces kinds.RightBracket v.2 rest) g0.1 (value_in _ x v.0 v.1 v.2 v.3 at) (stops v.2 rest) in
     want _ _ _ (c.in_err-close.ensures.only v.2 rest g1.1 tt tt)) c.from_residual-in_err-close.ensures.1
 
@@ -65,7 +60,7 @@ returns-clause-reads g c = record {
   );
   only = λ x rest r at s.
       let v = as_index x.node (tail_begins _ x.node rest _ c.requires.told r) in
-      let g0 = c.in_ok-open.ensures.only v.0 (expr_line v.1 (mark pieces kinds.RightBracket v.2 rest)) (line _ x rest _ v.3 r) tt tt in
+      let g0 = c.in_ok-open.ensures.only v.0 (expr_line v.1 (mark pieces kinds.RightBracket v.2 rest)) (line_of _ x.node _ rest v.3 r) tt tt in
       let g1 = c.in_ok-value.ensures.reads.only (value_of v.1) (mark pieces kinds.RightBracket v.2 rest) g0.1 (value_in _ x v.0 v.1 v.2 v.3 at) (stops v.2 rest) in
       let g2 = c.in_ok-close.ensures.only v.2 rest g1.1 tt tt in
       let h : tail_height x.node ≡ max (expr v.1).height 0 = ap tail_height v.3 in

@@ -1,5 +1,4 @@
-use Rattle.std.proofs.Common.{◌≡◌, ◌<◌, ◌≤◌, ◌+◌, ◌-◌, ℕ, refl, sym, ap, ◌∙◌, subst, arith, List, Option, Some, None, true}
-use Rattle.js_tree.specs.Pieces.{Piece}
+use Rattle.std.proofs.Common.{◌≡◌, refl, sym, ap, ◌∙◌, subst, arith, Option, Some, true}
 use Rattle.js_tree.specs.Spelling.Nodes.{all_within, unmarked}
 use Rattle.js_tree.specs.Spelling.Rows.{bracket_row, maybe}
 use Rattle.js_tree.specs.declared.lists.Bracket.{Bracket}
@@ -9,7 +8,6 @@ use Rattle.js_parser.proofs.ArgumentLemmas.{arguments_in, arguments_none, argume
 use Rattle.js_parser.proofs.PlaceLemmas.{passes_none}
 use Rattle.js_parser.proofs.ReadLemmas.{want, failed_maybe}
 use Rattle.js_parser.specs.Nodes.{argument_stands, arguments_line, higher}
-use Rattle.js_parser.specs.declared.tall.Tall.{Tall}
 use Rattle.js_parser.proofs.grammar.Grammar.maybe_arguments.Goals as goal
 
 pub returns-then-not-are_same : goal.returns-then-not-are_same

@@ -1,4 +1,4 @@
-use Rattle.std.proofs.Common.{◌≡◌, ◌<◌, ◌≤◌, ◌+◌, ◌-◌, ℕ, max, Bool, true, false, refl, sym, ap, ◌∙◌, subst, arith, List, [], ◌∷◌, ◌++◌, true≢false}
+use Rattle.std.proofs.Common.{◌≡◌, ◌-◌, max, Bool, true, refl, sym, ap, ◌∙◌, subst, arith, List, [], ◌∷◌, ◌++◌, true≢false}
 use Rattle.js_tree.specs.Pieces.{Piece, Tok}
 use Rattle.js_tree.specs.Spelling.{tallest_of}
 use Rattle.js_tree.specs.declared.lists.Listed.{Listed}

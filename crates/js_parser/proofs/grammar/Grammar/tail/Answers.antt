@@ -1,6 +1,4 @@
-use Rattle.std.proofs.Common.{◌≡◌, ◌<◌, ◌≤◌, ◌+◌, ◌-◌, ℕ, refl, sym, ap, ◌∙◌, arith, true≢false, List}
-use Rattle.js_tree.specs.Pieces.{Piece}
-use Rattle.js_tree.specs.declared.lists.Tail.{Tail}
+use Rattle.std.proofs.Common.{sym, ◌∙◌, true≢false}
 use Rattle.js_tree.specs.declared.lists.Tail.TheVariants as tail
 use Rattle.js_parser.proofs.PlaceLemmas.{passes_none}
 use Rattle.js_parser.proofs.ReadLemmas.{want, failed}

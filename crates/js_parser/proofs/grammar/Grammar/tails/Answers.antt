@@ -1,9 +1,8 @@
-use Rattle.std.proofs.Common.{◌≡◌, ◌<◌, ◌≤◌, ◌-◌, ℕ, max, refl, sym, ap, ◌∙◌, subst, arith, List, [], ◌++◌, ◌∷◌}
+use Rattle.std.proofs.Common.{◌-◌, max, sym, ap, ◌∙◌, subst, arith, List}
 use Rattle.js_tree.specs.Pieces.{Piece}
 use Rattle.js_tree.specs.Spelling.{tallest_of}
 use Rattle.js_tree.specs.declared.lists.Tail.{Tail}
 use Rattle.js_tree.specs.declared.tree.Expr.{Expr}
-use Rattle.js_tokens.specs.Pieces.{Gives}
 use Rattle.js_parser.proofs.ListLemmas.{Progress, begun, one_more, finished_by, refused, tallest-push}
 use Rattle.js_parser.proofs.ReadLemmas.{want, gives, failed_maybe}
 use Rattle.js_parser.proofs.TailLemmas.{IsTail, tail_is, may_stand, no_tail, some_tail, tail_at, tails_at, tails_of, tall_tail}

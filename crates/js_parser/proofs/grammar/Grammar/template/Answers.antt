@@ -1,6 +1,6 @@
-use Rattle.std.proofs.Common.{◌≡◌, ◌<◌, ◌≤◌, ◌+◌, ◌-◌, ℕ, true, refl, sym, ap, ◌∙◌, subst, arith, Bool, List, [], ◌∷◌}
+use Rattle.std.proofs.Common.{◌≡◌, ℕ, sym, ap, ◌∙◌, subst, arith, Bool, List, ◌∷◌}
 use Rattle.std.specs.List.{list_all}
-use Rattle.js_tree.specs.Pieces.{Piece, Tok}
+use Rattle.js_tree.specs.Pieces.{Tok}
 use Rattle.js_tree.specs.Spelling.Nodes.{unmarked}
 use Rattle.js_tree.specs.Spelling.Rows.{template_parts}
 use Rattle.js_tree.specs.declared.lists.Listed.{Listed}
