@@ -47,7 +47,7 @@ second : (a b : Bool) → (a && b) ≡ true → b ≡ true
 second true b e = e
 second false b e = absurd (true≢false (sym e))
 
-implies : (a b : Bool) → (not a || b) ≡ true → a ≡ true → b ≡ true
+pub implies : (a b : Bool) → (not a || b) ≡ true → a ≡ true → b ≡ true
 implies true b h e = h
 implies false b h e = absurd (true≢false (sym e))
 
@@ -55,7 +55,7 @@ either : (a b : Bool) → (a || b) ≡ true → a ≡ false → b ≡ true
 either true b h e = absurd (true≢false e)
 either false b h e = h
 
-equal : (a b : ℕ) → (a == b) ≡ true → a ≡ b
+pub equal : (a b : ℕ) → (a == b) ≡ true → a ≡ b
 equal a b e = grind (arith, nat_tests, e)
 
 -- a token with which an expression goes on is one that the goal Operator reads
