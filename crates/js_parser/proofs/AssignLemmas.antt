@@ -303,6 +303,10 @@ chain_covered x n target same no_name no_paren =
     by_layer (Expr-F.Assign target op value) e = none (Expr-F.Assign target op value) e refl
     by_layer (Expr-F.Comma first others) e = none (Expr-F.Comma first others) e refl
 
+-- the same of the pattern in its box
+pub boxed : (x : Expr) (n : ℕ) (p q : Pattern) → q ≡ p → Covers x p × (n ≡ (pattern p).height) → Covers x q × (n ≡ (pattern q).height)
+boxed x n p q same m = subst (λ (r : Pattern). Covers x r × (n ≡ (pattern r).height)) (sym same) m
+
 -- WHAT STANDS BEHIND THE TARGET
 
 -- the expression alone
