@@ -5,8 +5,8 @@ use Rattle.js_tree.specs.Spelling.Nodes.{ASSIGN, pieces, stands}
 use Rattle.js_tree.specs.Spelling.Rows.{mark}
 use Rattle.js_tree.specs.declared.token_kind.TokenKind.TheVariants as kinds
 use Rattle.js_parser.proofs.ChoiceLemmas.{colon_stops, failed_arm}
+use Rattle.js_parser.proofs.BeginLemmas.{with_mark}
 use Rattle.js_parser.proofs.ExprLemmas.{value_at, value_of}
-use Rattle.js_parser.proofs.MadeLemmas.{mark_read}
 use Rattle.js_parser.proofs.PlaceLemmas.{passes_none, passes_on}
 use Rattle.js_parser.proofs.ReadLemmas.{want}
 use Rattle.js_parser.specs.Nodes.{expr_line}
@@ -42,9 +42,9 @@ returns g c =
     record {
       reads = record {
         found = (
-          λ p before rest r. before _ (mark_read _ _ _ kinds.Question _ c.in_ok-question.ensures.found.0 c.in_ok-question.ensures.found.1
+          λ p before rest r. before _ (with_mark kinds.Question _ _ _ _ c.in_ok-question.ensures.found.0 c.in_ok-question.ensures.found.1
               (c.in_ok-given.ensures.reads.found.0 (mark pieces kinds.Colon c.in_ok-colon.colon rest)
-              (mark_read _ _ _ kinds.Colon rest c.in_ok-colon.ensures.found.0 c.in_ok-colon.ensures.found.1 r))),
+              (with_mark kinds.Colon _ _ _ rest c.in_ok-colon.ensures.found.0 c.in_ok-colon.ensures.found.1 r))),
           ap (λ (b : Bool). b && stands ASSIGN (expr c.in_ok-given.given.node)) test.stands ∙ w.stands,
           c.higher.ensures ∙ (λ i. max (test.height i) (w.height i)),
         );
