@@ -1,6 +1,7 @@
 pub mod BeginLemmas
 pub mod BoundaryLemmas
 pub mod BracketLemmas
+pub mod ChainLemmas
 pub mod ExprLemmas
 pub mod FunctionLemmas
 pub mod HeadLemmas
