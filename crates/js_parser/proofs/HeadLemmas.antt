@@ -1,6 +1,6 @@
 -- Primaries, and what `new` makes: which kind of node begins with which token.
-use Rattle.std.proofs.Common.{◌≡◌, ◌⊎◌, ⊎_elim, ℕ, ◌+◌, ◌<◌, ◌≤◌, Bool, true, false, ◌&&◌, List, [], ◌∷◌, refl, sym, ap, ◌∙◌, subst, arith, true≢false, if◌then◌else◌}
-use Rattle.std.specs.Prelude.{nat_le, Option, Some, None, is_some}
+use Rattle.std.proofs.Common.{◌≡◌, ◌⊎◌, ⊎_elim, ℕ, ◌<◌, ◌≤◌, Bool, true, false, ◌&&◌, not, List, [], ◌∷◌, refl, sym, ap, ◌∙◌, subst, arith, true≢false, if◌then◌else◌}
+use Rattle.std.specs.Prelude.{nat_le, Option}
 use Rattle.std.proofs.lemmas.Bool.Decides.{nat_tests}
 use Rattle.js_tree.specs.declared.lists.Bracket.{Bracket}
 use Rattle.js_tree.specs.declared.lists.Tail.{Tail}
@@ -29,7 +29,7 @@ use Rattle.js_tokens.specs.Ahead.{reads, IsTwin, IsNextKind}
 use Rattle.js_tokens.specs.declared.goal.Goal.TheVariants as goal
 use Rattle.js_tokens.specs.Pieces.{Reads}
 use Rattle.js_parser.proofs.TokenLemmas.{told, only_plain}
-use Rattle.js_parser.specs.Following.{LeadsTo, primary_of}
+use Rattle.js_parser.specs.Following.{Leads, LeadsTo, primary_of}
 use Rattle.js_parser.specs.Nodes.{ValueAt, expr_line}
 use Rattle.js_parser.specs.declared.tall.Value.{Value}
 use Rattle.js_parser.specs.declared.kinds.Primary.{Primary}
@@ -153,6 +153,21 @@ literal_sort j k lit plain h = ⊎_elim (λ (e : j ≡ k). subst (λ (i : TokenK
 pub plain_told : (p q : Place) (t : Token) (k : TokenKind) → IsNextKind p k → Next p t q → reads goal.Operator k ≡ true
 plain_told p q t k next a = let w = twin p q t a in ap (reads goal.Operator) (sym (told p w.behind w.token k next w.next w.reads)) ∙ w.reads
 
+-- what is no primary begins with `new`
+new_told : (p : Place) (x : Expr) (rest : List Piece) (k : TokenKind) → IsNextKind p k → Reads p (expr_line x rest) → (h : Head x) → sort_of h ≡ sorts.Nothing → k ≡ kinds.New
+new_told p x rest k next r (IsName t e) s = absurd (let e : sorts.Name ≡ sorts.Nothing = s in cc)
+new_told p x rest k next r (IsThis t e) s = absurd (let e : sorts.This ≡ sorts.Nothing = s in cc)
+new_told p x rest k next r (IsLiteral t e) s = absurd (let e : sorts.Literal ≡ sorts.Nothing = s in cc)
+new_told p x rest k next r (IsTemplate t e) s = absurd (let e : sorts.Template ≡ sorts.Nothing = s in cc)
+new_told p x rest k next r (IsParen begin inner end e) s = absurd (let e : sorts.Paren ≡ sorts.Nothing = s in cc)
+new_told p x rest k next r (IsFun f e) s = absurd (let e : sorts.Function ≡ sorts.Nothing = s in cc)
+new_told p x rest k next r (IsNewTarget word dot target e) s =
+    let m = at_line p x rest (Expr-F.NewTarget word dot target) e r in
+    token_told p m.1.0 k kinds.New word next refl m.1.1 m.1.2
+new_told p x rest k next r (IsNew word head tails args e) s =
+    let m = at_line p x rest (Expr-F.New word head tails args) e r in
+    token_told p m.1.1.1.1.1.0 k kinds.New word next refl m.1.1.1.1.1.1 m.1.1.1.1.1.2
+
 -- the sort that is told is that of what stands there
 pub sort_told : (p : Place) (x : Expr) (rest : List Piece) (k : TokenKind) → IsNextKind p k → Reads p (expr_line x rest) → (h : Head x) → primary_of k ≡ sort_of h
 sort_told p x rest k next r (IsName t e) = ap primary_of (one_told p k kinds.Name t rest next refl (at_line p x rest _ e r))
@@ -172,20 +187,23 @@ sort_told p x rest k next r (IsFun f e) = ap primary_of (by_function (out-Functi
     by_function (Function-F.Keyword word name params body) is =
         let line = at_line p x rest (Expr-F.«Expr::Fun» f) e r in
         let m : Reads p (musts (function_musts (function_layer (Function-F.Keyword word name params body))) (function_row seen_lines (Function-F.Keyword word name params body) rest)) =
-            subst (λ (ps : List Piece). Reads p ps) (function_line f rest ∙ ap (λ l. musts (function_musts (function_layer l)) (function_row seen_lines l rest)) is) line in
+        subst (λ (ps : List Piece). Reads p ps) (function_line f rest ∙ ap (λ l. musts (function_musts (function_layer l)) (function_row seen_lines l rest)) is) line in
         token_told p m.1.0 k kinds.Function word next refl m.1.1 m.1.2
-sort_told p x rest k next r (IsNewTarget word dot target e) =
-    let m = at_line p x rest (Expr-F.NewTarget word dot target) e r in
-    ap primary_of (token_told p m.1.0 k kinds.New word next refl m.1.1 m.1.2)
-sort_told p x rest k next r (IsNew word head tails args e) =
-    let m = at_line p x rest (Expr-F.New word head tails args) e r in
-    ap primary_of (token_told p m.1.1.1.1.1.0 k kinds.New word next refl m.1.1.1.1.1.1 m.1.1.1.1.1.2)
+sort_told p x rest k next r (IsNewTarget word dot target e) = ap primary_of (new_told p x rest k next r (IsNewTarget word dot target e) refl)
+sort_told p x rest k next r (IsNew word head tails args e) = ap primary_of (new_told p x rest k next r (IsNew word head tails args e) refl)
 
 -- what stands where a primary of the sort begins
 pub of_sort : (p : Place) (x : Expr) (rest : List Piece) (sort : Primary) → LeadsTo sort p → Reads p (expr_line x rest) → nat_le NEW (expr x).rank ≡ true → IsOf sort x
 of_sort p x rest sort leads r high =
     let h = head_of p x rest r high in
     subst (λ (s : Primary). IsOf s x) (sym (sort_told p x rest leads.0 leads.1 r h) ∙ leads.2) (is_of h)
+
+-- where neither a primary nor `new` begins nothing of the level stands
+pub no_head : (p : Place) (x : Expr) (rest : List Piece) → LeadsTo sorts.Nothing p → Leads (λ k. not (is kinds.New k)) p → Reads p (expr_line x rest) → nat_le NEW (expr x).rank ≡ true → ⊥
+no_head p x rest leads other r high =
+    let h = head_of p x rest r high in
+    let k = new_told p x rest other.0 other.1 r h (sym (sort_told p x rest leads.0 leads.1 r h) ∙ leads.2) in
+    true≢false (sym other.2 ∙ ap (λ (j : TokenKind). not (is kinds.New j)) k)
 
 pub high : (room : ℕ) (x : Value) → ValueAt NEW room x → nat_le NEW (expr x.node).rank ≡ true
 high room x at = last (expr x.node).is_sound _ at.stands

@@ -3,6 +3,7 @@ pub mod AssignLemmas
 pub mod BeginLemmas
 pub mod BoundaryLemmas
 pub mod BracketLemmas
+pub mod ChainLemmas
 pub mod ChoiceLemmas
 pub mod ExprLemmas
 pub mod FormLemmas

@@ -15,6 +15,7 @@ use Rattle.js_tree.proofs.SpellingLemmas.{at_expr, expr_layer, expr_line_at, see
 use Rattle.js_tokens.specs.Pieces.{Reads, Read}
 use Rattle.js_parser.specs.Nodes.{IsSeen, expr_line}
 
+-- the layer of a node that was put together
 pub out_of : (l : ExprLayer) (x : Expr) → roll-Expr l ≡ x → out-Expr x ≡ l
 out_of l x is = ap out-Expr (sym is) ∙ out-roll-Expr l
 

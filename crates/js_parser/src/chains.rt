@@ -1,5 +1,9 @@
 //! Chains and what `new` makes (ECMA-262, 12.3).
-ghost use Rattle.std.specs.Prelude.{◌≡◌, ◌≤◌, ◌<◌, ◌-◌};
+ghost use Rattle.std.specs.Prelude.{◌≡◌, ◌≤◌, ◌<◌, ◌-◌, ◌&&◌, if◌then◌else◌, codes};
+ghost use Rattle.std.specs.Str.{bytes_eq};
+ghost use Rattle.js_tree.specs.Spelling.{expr as seen};
+ghost use Rattle.js_tree.specs.Spelling.Nodes.{MADE, NEW, is_named};
+ghost use Rattle.js_tree.specs.TokenKinds.{is};
 ghost use Rattle.js_tree.specs.declared.token_kind.TokenKind.TheVariants as kinds;
 ghost use Rattle.js_tokens.specs.Ahead.{IsNextKind};
 ghost use Rattle.js_parser.specs.Nodes.{Knot, ReadsExpr, ReadsMaybeArguments};
@@ -11,15 +15,35 @@ use crate::tails::is_eval;
 use crate::tall::{Tall, Value, higher};
 use crate::values::value;
 use js_tokens::{TokenFault, TokenReader};
-use js_tree::{Bracket, Expr, Stmt, TokenKind, is_target};
+use js_tree::{Bracket, Expr, Stmt, Token, TokenKind, is_target};
 use sqlite_items::{Boxed, Items};
 use std::alloc::Global;
+
+// Whether arguments follow the name `eval`.
+fn calls_eval(head: &Expr, next: TokenKind) -> bool
+    ensures { result ≡ (is_named (codes "eval") (seen head.now) && is kinds.LeftParen next) }
+{
+    is_eval(head) && are_same(TokenKind::LeftParen, next)
+}
+
+// Whether the token is the name behind `new.`.
+fn is_target_name(name: &Token) -> bool
+    ensures { result ≡ bytes_eq name.now.text (codes "target") }
+{
+    name.text.as_str() == "target"
+}
+
+// The rank of what `new` makes, with or without arguments.
+fn made_rank(has_args: bool) -> u8
+    ensures { result ≡ (if has_args then MADE else NEW) }
+{
+    if has_args { 19 } else { 18 }
+}
 
 impl<
     E: Fn(Global, &mut TokenReader<'_>, u32, u8) -> Result<Value, TokenFault>,
     S: Fn(Global, &mut TokenReader<'_>, u32) -> Result<Tall<Items<Stmt>>, TokenFault>,
-> Grammar<E, S>
-{
+> Grammar<E, S> {
     /// A chain, what `new` makes, or a primary.
     pub fn chain(&self, reader: &mut TokenReader<'_>) -> Result<Value, TokenFault>
         requires knot { Knot self.now.room (E.pre self.now.expr) (E.post self.now.expr) (S.pre self.now.stmts) (S.post self.now.stmts) }
@@ -31,7 +55,7 @@ impl<
         if head.rank < 19 {
             return Ok(head);
         }
-        if is_eval(head.node.get()) && are_same(TokenKind::LeftParen, reader.kind()) {
+        if calls_eval(head.node.get(), reader.kind()) {
             return Err(refusal);
         }
         let tails = self.tails(reader, true)?;
@@ -71,17 +95,28 @@ impl<
             let dot = mark(self.alloc, reader, TokenKind::Dot)?;
             let refusal = reader.refusal();
             let target = mark(self.alloc, reader, TokenKind::Name)?;
-            if target.text.as_str() != "target" {
+            if !is_target_name(&target) {
                 return Err(refusal);
             }
             let node = Expr::NewTarget { word, dot, target };
             return value(self.alloc, reader, self.room, node, 0, 20, false);
         }
         let head = self.inner(reader, 18)?;
+        if head.rank < 19 {
+            // A `new` without arguments: no tails and no arguments are left behind it.
+            let below = head.height;
+            let node = Expr::New {
+                word,
+                head: head.node,
+                tails: Items::new(self.alloc),
+                args: None,
+            };
+            return value(self.alloc, reader, self.room, node, below, 18, false);
+        }
         let tails = self.tails(reader, false)?;
         let args = self.maybe_arguments(reader)?;
         let below = higher(head.height, higher(tails.height, args.height));
-        let rank = if args.node.is_some() { 19 } else { 18 };
+        let rank = made_rank(args.node.is_some());
         let node = Expr::New {
             word,
             head: head.node,
