@@ -1,5 +1,5 @@
 -- Assignments and choices by what they begin with, and the arms of a choice.
-use Rattle.std.proofs.Common.{◌≡◌, ⊎_elim, ℕ, zero, suc, ◌+◌, ◌-◌, ◌<◌, ◌≤◌, ◌==◌, max, Bool, true, false, ◌&&◌, ◌||◌, not, List, [], ◌∷◌, ◌++◌, map, length, Result, Ok, Err, refl, sym, ap, ◌∙◌, subst, arith, append-nil, append_assoc, true≢false, if◌then◌else◌}
+use Rattle.std.proofs.Common.{◌≡◌, ⊎_elim, ℕ, zero, suc, ◌+◌, ◌-◌, ◌<◌, ◌≤◌, ◌==◌, max, Bool, true, false, ◌&&◌, ◌||◌, not, List, [], ◌∷◌, ◌++◌, map, Result, Ok, Err, refl, sym, ap, ◌∙◌, subst, arith, append-nil, append_assoc, true≢false, if◌then◌else◌}
 use Rattle.std.specs.List.{list_all}
 use Rattle.std.specs.Prelude.{nat_le, Option, Some, None}
 use Rattle.std.specs.Result.{IsErrAnd}
@@ -12,7 +12,6 @@ use Rattle.js_tree.specs.declared.token.Token.{Token}
 use Rattle.js_tree.specs.declared.token_kind.TokenKind.TheVariants as kinds
 use Rattle.js_tree.specs.declared.tree.Expr.{Expr, out-Expr, roll-Expr}
 use Rattle.js_tree.specs.declared.tree.Expr.TheOpen.{Expr-F}
-use Rattle.js_tree.specs.declared.tree.Pattern.{Pattern}
 use Rattle.js_tree.specs.Folds.{ExprLayer}
 use Rattle.js_tree.specs.Lexing.{Place}
 use Rattle.js_tree.specs.Operators.{is_assignment, is_binary, is_update}
@@ -31,10 +30,10 @@ use Rattle.js_tokens.specs.declared.fault.TokenFault.{TokenFault}
 use Rattle.js_tokens.specs.declared.goal.Goal.TheVariants as goal
 use Rattle.js_parser.proofs.AssignLemmas.{alike, assign_stops, covering}
 use Rattle.js_parser.proofs.BeginLemmas.{stops_before, stops_higher}
-use Rattle.js_parser.proofs.ExprLemmas.{at_lower, node_of, value_at, value_of}
+use Rattle.js_parser.proofs.ExprLemmas.{value_at, value_of}
 use Rattle.js_parser.proofs.HeadLemmas.{at_line, rank_at}
-use Rattle.js_parser.proofs.LeadLemmas.{Leads, at_higher, first_fails, first_read}
-use Rattle.js_parser.proofs.ListedLemmas.{both, is_false}
+use Rattle.js_parser.proofs.LeadLemmas.{Leads, at_higher, first_read}
+use Rattle.js_parser.proofs.ListedLemmas.{both}
 use Rattle.js_parser.proofs.MadeLemmas.{read_at, seen_at}
 use Rattle.js_parser.proofs.PlaceLemmas.{moved, passes_none, passes_on}
 use Rattle.js_parser.proofs.ReadLemmas.{IsWant, gives}

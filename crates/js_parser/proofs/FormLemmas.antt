@@ -15,7 +15,7 @@ use Rattle.js_tree.specs.Operators.{is_unary, is_update, on_line}
 use Rattle.js_tree.specs.Pieces.{Piece, Tok, Ahead, kind as kind_of}
 use Rattle.js_tree.specs.Spelling.{expr}
 use Rattle.js_tree.specs.Spelling.Expressions.{expr_rank, expr_target, is_place}
-use Rattle.js_tree.specs.Spelling.Nodes.{Seen, BINARY, POWER, UNARY, UPDATE, POSTFIX, CHAIN, NEW, MADE, binary_rank, pieces, stands}
+use Rattle.js_tree.specs.Spelling.Nodes.{Seen, POWER, UNARY, UPDATE, POSTFIX, CHAIN, NEW, MADE, binary_rank, pieces, stands}
 use Rattle.js_tree.specs.Spelling.Rows.{mark}
 use Rattle.js_tree.specs.TokenKinds.{is}
 use Rattle.js_tree.proofs.KindLemmas.{is_same}
@@ -34,7 +34,6 @@ use Rattle.js_parser.proofs.StrengthLemmas.{of_update, plain_unary, plain_update
 use Rattle.js_parser.proofs.TokenLemmas.{told}
 use Rattle.js_parser.specs.Following.{IsStrength, Leads as LeadsTo, Stops, primary_of, strength}
 use Rattle.js_parser.specs.Nodes.{ValueAt, expr_line, value_line}
-use Rattle.js_parser.specs.declared.kinds.Primary.{Primary}
 use Rattle.js_parser.specs.declared.kinds.Primary.TheVariants as sorts
 use Rattle.js_parser.specs.declared.tall.Value.{Value}
 

@@ -1,5 +1,5 @@
 -- Lists by commas and operands with operators of one level: with what they begin, and how they are put together.
-use Rattle.std.proofs.Common.{◌≡◌, ◌⊎◌, ⊎_elim, inl, inr, ℕ, zero, suc, ◌+◌, ◌-◌, ◌<◌, ◌≤◌, ◌==◌, max, Bool, true, false, ◌&&◌, ◌||◌, not, List, [], ◌∷◌, length, Ok, Err, Result, refl, sym, ap, ◌∙◌, subst, arith, true≢false, if◌then◌else◌}
+use Rattle.std.proofs.Common.{◌≡◌, ◌⊎◌, ⊎_elim, inl, inr, ℕ, zero, suc, ◌+◌, ◌-◌, ◌<◌, ◌≤◌, ◌==◌, max, Bool, true, false, ◌&&◌, ◌||◌, not, List, [], ◌∷◌, Ok, Err, Result, refl, sym, ap, ◌∙◌, subst, arith, true≢false, if◌then◌else◌}
 use Rattle.std.specs.List.{list_all}
 use Rattle.std.specs.Prelude.{nat_le}
 use Rattle.std.proofs.lemmas.Bool.Decides.{nat_tests}
@@ -11,7 +11,7 @@ use Rattle.js_tree.specs.Lexing.{Place}
 use Rattle.js_tree.specs.Operators.{is_binary}
 use Rattle.js_tree.specs.Pieces.{Piece, Onto}
 use Rattle.js_tree.specs.Spelling.{expr}
-use Rattle.js_tree.specs.Spelling.Nodes.{Seen, ASSIGN, BINARY, POWER, NEW, LEVELS, all_further, binary_rank, is_empty, pieces, stands, unmarked}
+use Rattle.js_tree.specs.Spelling.Nodes.{Seen, ASSIGN, BINARY, POWER, NEW, LEVELS, all_further, binary_rank, is_empty, pieces, stands}
 use Rattle.js_tree.specs.Spelling.Rows.{each_of, further_row}
 use Rattle.js_tree.specs.TokenKinds.{is as is_kind}
 use Rattle.js_tree.proofs.SpellingLemmas.{at_expr}

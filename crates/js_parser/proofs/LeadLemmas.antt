@@ -1,5 +1,5 @@
 -- Expressions that begin with one of a higher level, and what is read on behind it.
-use Rattle.std.proofs.Common.{◌≡◌, ℕ, ◌≤◌, ◌<◌, Bool, true, false, ◌&&◌, List, length, Result, Ok, Err, IfOk, sym, ap, ◌∙◌, subst, arith}
+use Rattle.std.proofs.Common.{◌≡◌, ℕ, ◌≤◌, ◌<◌, Bool, true, ◌&&◌, List, length, Result, Ok, Err, IfOk, sym, ap, ◌∙◌, subst, arith}
 use Rattle.std.specs.Prelude.{nat_le}
 use Rattle.std.specs.Result.{IsErrAnd}
 use Rattle.js_tree.specs.Lexing.{Place}
@@ -10,7 +10,7 @@ use Rattle.js_tokens.specs.Pieces.{Reads, Read, Passes, Refuses}
 use Rattle.js_tokens.specs.declared.fault.TokenFault.{TokenFault}
 use Rattle.js_parser.proofs.ExprLemmas.{at_lower}
 use Rattle.js_parser.proofs.ParenLemmas.{sound_at}
-use Rattle.js_parser.proofs.PlaceLemmas.{moved, moves_on, passes_on, refuses_on}
+use Rattle.js_parser.proofs.PlaceLemmas.{moved, moves_on, refuses_on}
 use Rattle.js_parser.proofs.ReadLemmas.{IsWant, gives, want}
 use Rattle.js_parser.specs.Nodes.{GoesOn, Makes, ReadsExpr, ValueAt, ValueStops, expr_line, value_line}
 use Rattle.js_parser.specs.declared.tall.Value.{Value}

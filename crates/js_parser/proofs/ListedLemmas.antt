@@ -9,7 +9,7 @@ use Rattle.js_tree.specs.declared.tree.Expr.TheOpen.{Expr-F}
 use Rattle.js_tree.specs.Folds.{ExprLayer}
 use Rattle.js_tree.specs.Lexing.{Place}
 use Rattle.js_tree.specs.Pieces.{Piece, Onto, kind as kind_of}
-use Rattle.js_tree.specs.Spelling.{expr, tallest_of}
+use Rattle.js_tree.specs.Spelling.{expr}
 use Rattle.js_tree.specs.Operators.{is_binary, is_update}
 use Rattle.js_tree.specs.Spelling.Expressions.{expr_musts, expr_rank, expr_row}
 use Rattle.js_tree.specs.Spelling.Nodes.{Seen, musts, pieces, unmarked, stands, is_empty, all_further, BINARY, POWER, UNARY, UPDATE, binary_rank}

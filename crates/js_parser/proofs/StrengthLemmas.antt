@@ -3,7 +3,7 @@ use Rattle.std.proofs.Common.{◌≡◌, ℕ, ◌+◌, ◌==◌, Bool, true, fal
 use Rattle.std.specs.List.{list_all}
 use Rattle.std.proofs.lemmas.Bool.Decides.{nat_tests}
 use Rattle.js_tree.specs.Operators.{is_assignment, is_unary, is_update}
-use Rattle.js_tree.specs.Spelling.Nodes.{ASSIGN, COND, POWER, POSTFIX}
+use Rattle.js_tree.specs.Spelling.Nodes.{ASSIGN, POWER, POSTFIX}
 use Rattle.js_tree.specs.TokenKinds.{all_kinds, is}
 use Rattle.js_tree.specs.declared.token_kind.TokenKind.{TokenKind}
 use Rattle.js_tree.specs.declared.token_kind.TokenKind.TheVariants as kinds
@@ -33,11 +33,6 @@ pub is_stars : (k : TokenKind) (nl : Bool) → strength k nl ≡ POWER + 1 → i
 unfolding strong_check
 is_stars k true e = passes_strong 14 (is kinds.Stars) true refl k e
 is_stars k false e = passes_strong 14 (is kinds.Stars) false refl k e
-
-pub is_question : (k : TokenKind) (nl : Bool) → strength k nl ≡ COND + 1 → is kinds.Question k ≡ true
-unfolding strong_check
-is_question k true e = passes_strong 3 (is kinds.Question) true refl k e
-is_question k false e = passes_strong 3 (is kinds.Question) false refl k e
 
 pub assigns : (k : TokenKind) (nl : Bool) → strength k nl ≡ ASSIGN + 1 → is_assignment k ≡ true
 unfolding strong_check

@@ -1,4 +1,4 @@
-use Rattle.std.proofs.Common.{◌≡◌, ◌≤◌, ◌-◌, ℕ, sym, ◌∙◌, arith}
+use Rattle.std.proofs.Common.{◌-◌, sym, ◌∙◌}
 use Rattle.js_tree.specs.declared.tree.Expr.TheVariants.{outs-Binary, outs-Comma}
 use Rattle.js_parser.proofs.JoinLemmas.{as_binary, as_comma, list_binary}
 use Rattle.js_parser.proofs.expressions.listed.Goals as goal

@@ -1,5 +1,5 @@
-use Rattle.std.proofs.Common.{◌≡◌, ◌<◌, ◌≤◌, ◌+◌, ◌-◌, ℕ, sym, ap, ◌∙◌, subst, arith}
-use Rattle.js_tree.specs.Spelling.{expr, pattern}
+use Rattle.std.proofs.Common.{◌≡◌, ◌+◌, ◌-◌, sym, ◌∙◌, subst, arith}
+use Rattle.js_tree.specs.Spelling.{pattern}
 use Rattle.js_tree.specs.declared.tree.Expr.{Expr}
 use Rattle.js_tree.specs.declared.tree.Pattern.TheVariants as bound
 use Rattle.js_tree.proofs.SpellingLemmas.{expr_height_some}

@@ -1,11 +1,10 @@
-use Rattle.std.proofs.Common.{◌≡◌, ◌<◌, ◌≤◌, ◌+◌, ◌-◌, ◌∷◌, ℕ, max, refl, sym, ap, ◌∙◌, subst, arith, List}
+use Rattle.std.proofs.Common.{◌≡◌, ◌-◌, ◌∷◌, max, refl, sym, ◌∙◌, subst, arith}
 use Rattle.js_tree.specs.Operators.{is_assignment}
-use Rattle.js_tree.specs.Pieces.{Piece, Tok}
-use Rattle.js_tree.specs.Spelling.{expr, pattern}
+use Rattle.js_tree.specs.Pieces.{Tok}
 use Rattle.js_tree.specs.declared.tree.Expr.TheOpen.{Expr-F}
 use Rattle.js_tree.specs.declared.tree.Expr.TheVariants as expression
 use Rattle.js_tree.specs.declared.tree.Expr.TheVariants.{rolls-Assign}
-use Rattle.js_tree.specs.declared.tree.Expr.{Expr, roll-Expr}
+use Rattle.js_tree.specs.declared.tree.Expr.{roll-Expr}
 use Rattle.js_tree.specs.declared.tree.Pattern.{Pattern}
 use Rattle.js_parser.proofs.AssignLemmas.{above_cond, alike, assign_read, assign_seen, boxed, given_view, made_other, no_assigned, no_operator, one_pattern, pattern_refuses, pattern_want}
 use Rattle.js_parser.proofs.ExprLemmas.{at_lower, node_of, value_at, value_of}

@@ -1,5 +1,4 @@
-use Rattle.std.proofs.Common.{◌≡◌, ◌≤◌, ◌+◌, ◌-◌, ℕ, subst, sym, arith, List}
-use Rattle.js_tree.specs.Pieces.{Piece}
+use Rattle.std.proofs.Common.{◌-◌, subst}
 use Rattle.js_parser.proofs.ChoiceLemmas.{AfterTest, assign_view, to_assigned, to_choice}
 use Rattle.js_parser.proofs.LeadLemmas.{first_fails, read_on}
 use Rattle.js_parser.proofs.PlaceLemmas.{passes_none}

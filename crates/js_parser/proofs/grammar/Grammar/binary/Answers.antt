@@ -1,8 +1,6 @@
-use Rattle.std.proofs.Common.{◌≡◌, ◌<◌, ◌≤◌, ◌+◌, ◌-◌, ℕ, Ok, Err, inr, refl, sym, subst, arith, List}
-use Rattle.js_tree.specs.Pieces.{Piece}
-use Rattle.js_parser.proofs.ExprLemmas.{at_lower}
+use Rattle.std.proofs.Common.{◌≡◌, ◌-◌, ℕ, Ok, inr, subst, arith}
 use Rattle.js_parser.proofs.JoinLemmas.{binary_fails, joined_below}
-use Rattle.js_parser.proofs.PlaceLemmas.{passes_none, passes_on}
+use Rattle.js_parser.proofs.PlaceLemmas.{passes_none}
 use Rattle.js_parser.proofs.ReadLemmas.{failed}
 use Rattle.js_parser.specs.Nodes.{ReadsExpr}
 use Rattle.js_parser.proofs.grammar.Grammar.binary.Goals as goal

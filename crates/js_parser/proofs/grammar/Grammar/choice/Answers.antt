@@ -1,6 +1,5 @@
-use Rattle.std.proofs.Common.{◌≡◌, ◌<◌, ◌≤◌, ◌+◌, ◌-◌, ℕ, [], ◌∷◌, ◌++◌, max, refl, sym, ap, ◌∙◌, subst, arith, List, true≢false}
-use Rattle.js_tree.specs.Pieces.{Piece}
-use Rattle.js_tree.specs.Spelling.{expr, tallest_of}
+use Rattle.std.proofs.Common.{◌≡◌, ◌+◌, ◌-◌, [], ◌∷◌, ◌++◌, max, sym, ap, ◌∙◌, subst, arith, List, true≢false}
+use Rattle.js_tree.specs.Spelling.{tallest_of}
 use Rattle.js_tree.specs.Spelling.Nodes.{is_empty}
 use Rattle.js_tree.specs.declared.lists.Arm.{Arm}
 use Rattle.js_tree.specs.declared.tree.Expr.{Expr, roll-Expr}

@@ -1,5 +1,4 @@
-use Rattle.std.proofs.Common.{◌≡◌, ℕ, List, inl, refl}
-use Rattle.js_tree.specs.Pieces.{Piece}
+use Rattle.std.proofs.Common.{inl, refl}
 use Rattle.js_parser.proofs.JoinLemmas.{joined_read, joined_view}
 use Rattle.js_parser.proofs.LeadLemmas.{first_fails}
 use Rattle.js_parser.proofs.PlaceLemmas.{passes_none}

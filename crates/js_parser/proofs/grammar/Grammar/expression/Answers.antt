@@ -1,5 +1,4 @@
-use Rattle.std.proofs.Common.{◌≡◌, ◌<◌, ◌≤◌, ℕ, arith, List}
-use Rattle.js_tree.specs.Pieces.{Piece}
+use Rattle.std.proofs.Common.{arith}
 use Rattle.js_tree.proofs.SpellingLemmas.{expr_height_some}
 use Rattle.js_parser.proofs.ReadLemmas.{refused_here}
 use Rattle.js_parser.proofs.grammar.Grammar.expression.Goals as goal

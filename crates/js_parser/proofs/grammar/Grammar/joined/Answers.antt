@@ -1,6 +1,4 @@
-use Rattle.std.proofs.Common.{◌≡◌, ◌<◌, ◌≤◌, ◌+◌, ◌-◌, ℕ, max, refl, sym, ap, ◌∙◌, subst, arith, List}
-use Rattle.js_tree.specs.Pieces.{Piece}
-use Rattle.js_tree.specs.Spelling.{expr}
+use Rattle.std.proofs.Common.{◌+◌, ◌-◌, max, sym, ap, ◌∙◌, subst, arith, List}
 use Rattle.js_tree.specs.declared.lists.Further.{Further}
 use Rattle.js_tree.specs.declared.tree.Expr.{Expr, roll-Expr}
 use Rattle.js_parser.proofs.ExprLemmas.{at_lower, node_of}

@@ -1,13 +1,12 @@
-use Rattle.std.proofs.Common.{◌≡◌, ◌<◌, ◌≤◌, ◌+◌, ◌-◌, ◌||◌, ◌&&◌, ℕ, Bool, true, false, max, not, refl, sym, ap, ◌∙◌, subst, arith, List, if◌then◌else◌}
+use Rattle.std.proofs.Common.{◌≡◌, ◌-◌, ◌||◌, Bool, true, false, not, refl, sym, ap, ◌∙◌, arith, if◌then◌else◌}
 use Rattle.js_tree.specs.Operators.{is_unary, is_update}
-use Rattle.js_tree.specs.Pieces.{Piece, kind as kind_of}
+use Rattle.js_tree.specs.Pieces.{kind as kind_of}
 use Rattle.js_tree.specs.Spelling.{expr}
 use Rattle.js_tree.specs.Spelling.Nodes.{UNARY, UPDATE}
 use Rattle.js_tree.specs.declared.token.Token.{Token}
 use Rattle.js_tree.specs.declared.tree.Expr.TheOpen.{Expr-F}
 use Rattle.js_tree.specs.declared.tree.Expr.TheVariants.{rolls-Unary}
 use Rattle.js_tree.specs.declared.tree.Expr.{roll-Expr}
-use Rattle.js_tokens.specs.Pieces.{Reads}
 use Rattle.js_parser.proofs.ExprLemmas.{value_of, value_at, made, node_of}
 use Rattle.js_parser.proofs.FormLemmas.{least-Unary, may_not_stand, may_stand, operation_view}
 use Rattle.js_parser.proofs.MadeLemmas.{seen_at, read_at}

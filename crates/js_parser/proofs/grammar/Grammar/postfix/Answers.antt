@@ -1,10 +1,7 @@
-use Rattle.std.proofs.Common.{◌≡◌, ◌<◌, ◌≤◌, ◌+◌, ◌-◌, ℕ, max, not, refl, sym, ap, ◌∙◌, subst, arith, List}
-use Rattle.js_tree.specs.Pieces.{Piece}
-use Rattle.js_tree.specs.Spelling.{expr}
+use Rattle.std.proofs.Common.{◌-◌, not, refl, sym, ap, ◌∙◌, subst, arith}
 use Rattle.js_tree.specs.declared.tree.Expr.TheOpen.{Expr-F}
 use Rattle.js_tree.specs.declared.tree.Expr.TheVariants.{rolls-Postfix}
 use Rattle.js_tree.specs.declared.tree.Expr.{roll-Expr}
-use Rattle.js_tokens.specs.Pieces.{Reads}
 use Rattle.js_parser.proofs.ExprLemmas.{made, node_of}
 use Rattle.js_parser.proofs.FormLemmas.{no_target, no_update, place_of, postfix_view, updated}
 use Rattle.js_parser.proofs.LeadLemmas.{first_fails, first_read, stays_read}

@@ -1,12 +1,8 @@
-use Rattle.std.proofs.Common.{◌≡◌, ◌<◌, ◌≤◌, ◌+◌, ◌-◌, ℕ, max, refl, sym, ap, ◌∙◌, subst, arith, List}
-use Rattle.js_tree.specs.Pieces.{Piece}
-use Rattle.js_tree.specs.Spelling.{expr}
+use Rattle.std.proofs.Common.{◌-◌, refl, sym, ◌∙◌, subst, arith}
 use Rattle.js_tree.specs.declared.token_kind.TokenKind.TheVariants as kinds
 use Rattle.js_tree.specs.declared.tree.Expr.TheOpen.{Expr-F}
 use Rattle.js_tree.specs.declared.tree.Expr.TheVariants.{rolls-Power}
 use Rattle.js_tree.specs.declared.tree.Expr.{roll-Expr}
-use Rattle.js_tree.proofs.KindLemmas.{is_same}
-use Rattle.js_tokens.specs.Pieces.{Reads}
 use Rattle.js_parser.proofs.ExprLemmas.{value_of, value_at, made, node_of}
 use Rattle.js_parser.proofs.FormLemmas.{base_stands, no_stars, not_raised, power_view, raised}
 use Rattle.js_parser.proofs.LeadLemmas.{first_fails, first_read, stays_read}

@@ -1,5 +1,4 @@
-use Rattle.std.proofs.Common.{◌≡◌, ◌≤◌, ℕ, sym, ◌∙◌, arith, List}
-use Rattle.js_tree.specs.Pieces.{Piece}
+use Rattle.std.proofs.Common.{sym, ◌∙◌, arith}
 use Rattle.js_parser.proofs.BeginLemmas.{stops_higher}
 use Rattle.js_parser.proofs.FormLemmas.{without_operator}
 use Rattle.js_parser.proofs.LeadLemmas.{from_higher}
