@@ -27,6 +27,7 @@ use Rattle.js_tokens.specs.declared.fault.TokenFault.TheVariants as fault
 use Rattle.js_tokens.specs.declared.goal.Goal.TheVariants as goal
 use Rattle.js_parser.proofs.ExprLemmas.{node_of}
 use Rattle.js_parser.proofs.HeadLemmas.{rank_at}
+use Rattle.js_parser.proofs.LeadLemmas.{at_least}
 use Rattle.js_parser.proofs.ListedLemmas.{both}
 use Rattle.js_parser.proofs.MadeLemmas.{read_at, seen_at}
 use Rattle.js_parser.proofs.ReadLemmas.{IsWant}
@@ -340,7 +341,7 @@ given_view room head x behind rest m is at s (Assigns target op given e c b) r =
     let seen = at_expr x.node (Expr-F.Assign target op given) e in
     let h : (expr x.node).height ≡ max (pattern target).height (max (expr given).height 0) + 1 = ap (λ (z : Seen). z.height) seen in
     let sound : (((pattern target).is_sound && (is_kind kinds.Assign (kind_of op) || (pattern target).is_target)) ≡ true) × (stands ASSIGN (expr given) ≡ true) =
-        both _ _ (sym (ap (λ (z : Seen). z.is_sound) seen) ∙ (both _ _ at.stands).0) in
+    both _ _ (sym (ap (λ (z : Seen). z.is_sound) seen) ∙ (both _ _ at.stands).0) in
     record {
       target = target;
       op = op;
@@ -356,9 +357,6 @@ given_view room head x behind rest m is at s (Assigns target op given e c b) r =
 -- a choice stands below
 pub above_cond : (room : ℕ) (x : Value) → ValueAt BINARY room x → (expr x.node).rank ≡ COND → ⊥
 above_cond room x at e = omega (arith, e, at_least BINARY (expr x.node).rank (both _ _ at.stands).1)
-  where
-    at_least : (a b : ℕ) → nat_le a b ≡ true → a ≤ b
-    at_least a b h = grind (arith, nat_tests, h)
 
 pub made_other : (room order : ℕ) (x : Expr) (p : Place) (result : Result Value TokenFault) → Makes ASSIGN room x p result → IsSeen x order ASSIGN false → IfOk result (λ v. (expr v.node).rank ≡ COND → ⊥)
 made_other room order x p (Ok v) makes seen = λ e. omega (arith, e, seen.rank, ap (λ (y : Expr). (expr y).rank) makes.found.0)

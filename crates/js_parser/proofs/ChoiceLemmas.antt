@@ -32,7 +32,7 @@ use Rattle.js_parser.proofs.AssignLemmas.{alike, assign_stops, covering}
 use Rattle.js_parser.proofs.BeginLemmas.{stops_before, stops_higher}
 use Rattle.js_parser.proofs.ExprLemmas.{value_at, value_of}
 use Rattle.js_parser.proofs.HeadLemmas.{at_line, rank_at}
-use Rattle.js_parser.proofs.LeadLemmas.{Leads, at_higher, first_read}
+use Rattle.js_parser.proofs.LeadLemmas.{Leads, at_higher, at_least, first_read, least_at}
 use Rattle.js_parser.proofs.ListedLemmas.{both}
 use Rattle.js_parser.proofs.MadeLemmas.{read_at, seen_at}
 use Rattle.js_parser.proofs.PlaceLemmas.{moved, passes_none, passes_on}
@@ -68,12 +68,6 @@ pub data AfterTest (head x : Value) (behind rest : List Piece) : Type 0 where
   IsAssigned : AssignsTo head x behind rest → AfterTest head x behind rest
   IsChosen : Chooses head x behind rest → AfterTest head x behind rest
   IsNever : ((m : Place) → Reads m behind → ⊥) → AfterTest head x behind rest
-
-at_least : (a b : ℕ) → nat_le a b ≡ true → a ≤ b
-at_least a b e = grind (arith, nat_tests, e)
-
-least_at : (a b : ℕ) → a ≤ b → nat_le a b ≡ true
-least_at a b h = grind (arith, nat_tests, h)
 
 unequal : (n : ℕ) → not (n == COND) ≡ true → n ≡ COND → ⊥
 unequal n h e = true≢false (sym h ∙ ap not (itself n e))
@@ -160,7 +154,7 @@ assign_view room p x rest r at s = by_layer (out-Expr x.node) refl
           behind = more;
           read = subst (λ (ps : List Piece). Reads p ps) (sym (a.line more)) (at_line p x.node rest (Expr-F.Assign target op given) e r);
           at = value_at BINARY room c.target (ap (λ (b : Bool). b && nat_le BINARY (expr c.target).rank) c.sound ∙ least_at BINARY (expr c.target).rank (omega (arith, at_least CHAIN (expr c.target).rank c.high)))
-            (omega (arith, a.height, h, at.height, at.fits));
+              (omega (arith, a.height, h, at.height, at.fits));
           stops = assign_stops BINARY op (expr_line given rest) (omega arith);
           after = IsAssigned (Assigns target op given e c.covers refl);
         }
@@ -211,7 +205,7 @@ no_choice m n is other head x behind rest c r = other (asked m n c.question _ is
 -- an arm that isn't read
 pub failed_arm : (room : ℕ) (test : Value) (m k n : Place) (e : TokenFault) (result : Result (Tall (Arm Expr)) TokenFault) → Passes m k → Refuses k e
     → ((question : Token) (given : Expr) (colon : Token) (rest : List Piece) → stands ASSIGN (expr given) ≡ true → (expr given).height < room
-        → Reads m (mark pieces kinds.Question question (expr_line given (mark pieces kinds.Colon colon rest))) → IsWant e)
+    → Reads m (mark pieces kinds.Question question (expr_line given (mark pieces kinds.Colon colon rest))) → IsWant e)
     → IsErrAnd result (λ d. d ≡ e) → ReadsArm room test m n result
 failed_arm room test m k n e (Ok x) passes refuses only h = absurd h
 failed_arm room test m k n e (Err d) passes refuses only h = record {
@@ -404,7 +398,7 @@ module _ (room : ℕ) (head : Value) (m : Place) (arms : List (Arm Expr)) (test 
           last = w.last;
           behind = f.0;
           is = w.is ∙ ap (λ (ys : List (Arm Expr)). Expr-F.Cond ys w.last)
-            (ap (λ (y : Tall (Arm Expr)). arms ++ y.node ∷ w.others) (sym g.0) ∙ sym (append_assoc arms (arm.node ∷ []) w.others));
+              (ap (λ (y : Tall (Arm Expr)). arms ++ y.node ∷ w.others) (sym g.0) ∙ sym (append_assoc arms (arm.node ∷ []) w.others));
           at = w.at;
           after = f.1;
           read = f.2;

@@ -1,7 +1,6 @@
 -- Powers, operators before and behind an operand, and chains: which of them an expression is by its rank, and with what it begins.
 use Rattle.std.proofs.Common.{◌≡◌, ◌⊎◌, ⊎_elim, inl, inr, ℕ, ◌+◌, ◌<◌, ◌≤◌, max, Bool, true, false, ◌&&◌, ◌||◌, not, List, ◌∷◌, refl, sym, ap, ◌∙◌, subst, arith, true≢false, if◌then◌else◌}
 use Rattle.std.specs.Prelude.{nat_le, Option, Some, None}
-use Rattle.std.proofs.lemmas.Bool.Decides.{nat_tests}
 use Rattle.js_tree.specs.declared.lists.Bracket.{Bracket}
 use Rattle.js_tree.specs.declared.lists.Tail.{Tail}
 use Rattle.js_tree.specs.declared.token.Token.{Token}
@@ -27,7 +26,7 @@ use Rattle.js_tokens.specs.declared.goal.Goal.TheVariants as goal
 use Rattle.js_parser.proofs.BeginLemmas.{stops_before, stops_higher}
 use Rattle.js_parser.proofs.ExprLemmas.{at_lower, value_of, value_at}
 use Rattle.js_parser.proofs.HeadLemmas.{Head, IsName, IsThis, IsLiteral, IsTemplate, IsParen, IsFun, IsNewTarget, IsNew, at_line, head_of, rank_at, sort_of, sort_told, token_told}
-use Rattle.js_parser.proofs.LeadLemmas.{Leads, at_higher}
+use Rattle.js_parser.proofs.LeadLemmas.{Leads, at_higher, at_least, least_at}
 use Rattle.js_parser.proofs.ListedLemmas.{both}
 use Rattle.js_parser.proofs.ParenLemmas.{sound_at}
 use Rattle.js_parser.proofs.StrengthLemmas.{of_update, plain_unary, plain_update}
@@ -44,12 +43,6 @@ pub data Strong (x : Expr) : Type 0 where
   IsPostfix : (target : Expr) (op : Token) → out-Expr x ≡ Expr-F.Postfix target op → Strong x
   IsChain : (head : Expr) (tails : List (Tail Expr)) → out-Expr x ≡ Expr-F.Chain head tails → Strong x
   IsHigh : nat_le NEW (expr x).rank ≡ true → Strong x
-
-at_least : (a b : ℕ) → nat_le a b ≡ true → a ≤ b
-at_least a b e = grind (arith, nat_tests, e)
-
-least_at : (a b : ℕ) → a ≤ b → nat_le a b ≡ true
-least_at a b h = grind (arith, nat_tests, h)
 
 pub strong : (p : Place) (x : Expr) (rest : List Piece) → Reads p (expr_line x rest) → nat_le POWER (expr x).rank ≡ true → Strong x
 strong p x rest r h = by_layer (out-Expr x) refl
@@ -136,9 +129,6 @@ power_view room p x rest r at s = by_form (strong p x.node rest r (both _ _ at.s
     stays : nat_le UNARY (expr x.node).rank ≡ true → Leads (AfterBase room) UNARY room p x rest
     stays h = record { first = x; behind = rest; read = r; at = at_higher POWER UNARY room x h at; stops = stops_higher POWER UNARY rest (omega arith) s; after = NotRaised refl refl }
 
-    higher : (a b c : ℕ) → nat_le a c ≡ true → b ≤ a → nat_le b c ≡ true
-    higher a b c h le = least_at b c (omega (arith, at_least a c h, le))
-
     by_form : Strong x.node → Leads (AfterBase room) UNARY room p x rest
     by_form (IsPower base op exponent e) =
         let m = at_line p x.node rest (Expr-F.Power base op exponent) e r in
@@ -158,7 +148,7 @@ power_view room p x rest r at s = by_form (strong p x.node rest r (both _ _ at.s
         by_update false k = ap (nat_le UNARY) k
     by_form (IsPostfix target op e) = stays (ap (nat_le UNARY) (rank_at x.node (Expr-F.Postfix target op) e))
     by_form (IsChain head tails e) = stays (ap (nat_le UNARY) (rank_at x.node (Expr-F.Chain head tails) e))
-    by_form (IsHigh h) = stays (higher NEW UNARY (expr x.node).rank h (omega arith))
+    by_form (IsHigh h) = stays (least_at UNARY (expr x.node).rank (omega (arith, at_least NEW (expr x.node).rank h)))
 
 -- the base alone
 pub not_raised : (room : ℕ) (head x : Value) (behind rest : List Piece) (m : Place) → AfterBase room head x behind rest → (expr head.node).rank < UPDATE → Reads m behind → (head ≡ x) × Reads m rest

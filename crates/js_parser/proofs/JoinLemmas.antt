@@ -19,7 +19,7 @@ use Rattle.js_tokens.specs.Pieces.{Reads, Read}
 use Rattle.js_tokens.specs.declared.fault.TokenFault.{TokenFault}
 use Rattle.js_parser.proofs.BeginLemmas.{stops_higher}
 use Rattle.js_parser.proofs.ExprLemmas.{list_low, node_of, rests, rests_at, value_at, value_of}
-use Rattle.js_parser.proofs.LeadLemmas.{Leads, first_fails, read_on}
+use Rattle.js_parser.proofs.LeadLemmas.{Leads, at_least, first_fails, least_at, read_on}
 use Rattle.js_parser.proofs.ListedLemmas.{all_seen, both, empty_seen, height_seen, list_view, ListView, seen_others}
 use Rattle.js_parser.proofs.MadeLemmas.{read_at, seen_at}
 use Rattle.js_parser.proofs.OperandLemmas.{goes_no_further, goes_on, operand_stops}
@@ -96,17 +96,21 @@ module _ (rank : ℕ) (first : Expr) (others : List (Further Expr)) where
         binary : (BINARY ≤ rank) × (rank < POWER) → Read p (expr_line x) n
         binary b =
             let same : binary_rank (rank - 2) ≡ rank = omega (arith, b.0) in
-            let low : nat_le (rank - 2) LEVELS ≡ true = within (rank - 2) (omega (arith, b.1)) in
+            let low : nat_le (rank - 2) LEVELS ≡ true = least_at (rank - 2) LEVELS (omega (arith, b.1)) in
             read_at (Expr-F.Binary (rank - 2) first others) x (node_of x (Expr-F.Binary (rank - 2) first others) (is ∙ as_binary b.0)) p n
-            (λ rest r.
-                (low,
-                (subst (λ (k : ℕ). stands (k + 1) (expr first) ≡ true) (sym same) good,
-                (ap not (empty_seen others ∙ some),
-                (all_seen (binary_rank (rank - 2)) others ∙ subst (λ (k : ℕ). list_all (further_stands k) others ≡ true) (sym same) each,
-                moved (further_row pieces expr_line (is_binary (rank - 2))) (binary_line b.0) rest r)))))
-          where
-            within : (k : ℕ) → k ≤ LEVELS → nat_le k LEVELS ≡ true
-            within k le = grind (arith, nat_tests, le)
+            (λ rest r. (
+              low,
+              (
+                subst (λ (k : ℕ). stands (k + 1) (expr first) ≡ true) (sym same) good,
+                (
+                  ap not (empty_seen others ∙ some),
+                  (
+                    all_seen (binary_rank (rank - 2)) others ∙ subst (λ (k : ℕ). list_all (further_stands k) others ≡ true) (sym same) each,
+                    moved (further_row pieces expr_line (is_binary (rank - 2))) (binary_line b.0) rest r,
+                  ),
+                ),
+              ),
+            ))
 
 -- the operands behind the first
 pub others_at : (rank room : ℕ) → IsListRank rank → (x : Value) (first : Expr) (others : List (Further Expr)) → out-Expr x.node ≡ list_layer rank first others → list_all (further_stands rank) others ≡ true
@@ -217,14 +221,11 @@ pub between : (level : ℕ) → is_level level ≡ true → (level ≡ 0 → ⊥
 between level h comma assign unary new =
     ⊎_elim
     (λ (a : (level == 0 || level == 1 || (nat_le 3 level && nat_le level 14)) ≡ true).
-        ⊎_elim (λ (b : (level == 0 || level == 1) ≡ true). absurd (⊎_elim (λ (d : (level == 0) ≡ true). comma (equal level 0 d)) (λ (d : (level == 1) ≡ true). assign (equal level 1 d)) (or_true (level == 0) (level == 1) b))) middle
-        (or_true (level == 0 || level == 1) (nat_le 3 level && nat_le level 14) a))
+    ⊎_elim (λ (b : (level == 0 || level == 1) ≡ true). absurd (⊎_elim (λ (d : (level == 0) ≡ true). comma (equal level 0 d)) (λ (d : (level == 1) ≡ true). assign (equal level 1 d)) (or_true (level == 0) (level == 1) b))) middle
+    (or_true (level == 0 || level == 1) (nat_le 3 level && nat_le level 14) a))
     (λ (a : (level == 18) ≡ true). absurd (new (equal level 18 a)))
     (or_true (level == 0 || level == 1 || (nat_le 3 level && nat_le level 14)) (level == 18) h)
   where
-    at_least : (a b : ℕ) → nat_le a b ≡ true → a ≤ b
-    at_least a b k = grind (arith, nat_tests, k)
-
     lower : (a : ℕ) → nat_le a 14 ≡ true → (a ≡ 14 → ⊥) → a ≤ 13
     lower a k other = grind (arith, nat_tests, k, other)
 

@@ -1,6 +1,7 @@
 -- Expressions that begin with one of a higher level, and what is read on behind it.
 use Rattle.std.proofs.Common.{◌≡◌, ℕ, ◌≤◌, ◌<◌, Bool, true, ◌&&◌, List, length, Result, Ok, Err, IfOk, sym, ap, ◌∙◌, subst, arith}
 use Rattle.std.specs.Prelude.{nat_le}
+use Rattle.std.proofs.lemmas.Bool.Decides.{nat_tests}
 use Rattle.std.specs.Result.{IsErrAnd}
 use Rattle.js_tree.specs.Lexing.{Place}
 use Rattle.js_tree.specs.Pieces.{Piece}
@@ -14,6 +15,12 @@ use Rattle.js_parser.proofs.PlaceLemmas.{moved, moves_on, refuses_on}
 use Rattle.js_parser.proofs.ReadLemmas.{IsWant, gives, want}
 use Rattle.js_parser.specs.Nodes.{GoesOn, Makes, ReadsExpr, ValueAt, ValueStops, expr_line, value_line}
 use Rattle.js_parser.specs.declared.tall.Value.{Value}
+
+pub at_least : (a b : ℕ) → nat_le a b ≡ true → a ≤ b
+at_least a b e = grind (arith, nat_tests, e)
+
+pub least_at : (a b : ℕ) → a ≤ b → nat_le a b ≡ true
+least_at a b h = grind (arith, nat_tests, h)
 
 -- a value of a level is one of each level up to its rank
 pub at_higher : (level higher room : ℕ) (x : Value) → nat_le higher (expr x.node).rank ≡ true → ValueAt level room x → ValueAt higher room x

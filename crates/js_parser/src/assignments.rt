@@ -17,8 +17,7 @@ use std::alloc::Global;
 impl<
     E: Fn(Global, &mut TokenReader<'_>, u32, u8) -> Result<Value, TokenFault>,
     S: Fn(Global, &mut TokenReader<'_>, u32) -> Result<Tall<Items<Stmt>>, TokenFault>,
-> Grammar<E, S>
-{
+> Grammar<E, S> {
     /// An assignment, a choice, or an expression of a higher level.
     pub fn assignment(&self, reader: &mut TokenReader<'_>) -> Result<Value, TokenFault>
         requires knot { Knot self.now.room (E.pre self.now.expr) (E.post self.now.expr) (S.pre self.now.stmts) (S.post self.now.stmts) }

@@ -15,14 +15,9 @@ use std::alloc::Global;
 impl<
     E: Fn(Global, &mut TokenReader<'_>, u32, u8) -> Result<Value, TokenFault>,
     S: Fn(Global, &mut TokenReader<'_>, u32) -> Result<Tall<Items<Stmt>>, TokenFault>,
-> Grammar<E, S>
-{
+> Grammar<E, S> {
     /// An expression of the level.
-    pub fn expression(
-        &self,
-        reader: &mut TokenReader<'_>,
-        level: u8,
-    ) -> Result<Value, TokenFault>
+    pub fn expression(&self, reader: &mut TokenReader<'_>, level: u8) -> Result<Value, TokenFault>
         requires knot { Knot self.now.room (E.pre self.now.expr) (E.post self.now.expr) (S.pre self.now.stmts) (S.post self.now.stmts) }
         requires level { is_level level ≡ true }
         ensures reads { ReadsExpr level self.now.room reader.old reader.new result }

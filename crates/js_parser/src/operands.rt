@@ -18,8 +18,7 @@ use std::alloc::Global;
 impl<
     E: Fn(Global, &mut TokenReader<'_>, u32, u8) -> Result<Value, TokenFault>,
     S: Fn(Global, &mut TokenReader<'_>, u32) -> Result<Tall<Items<Stmt>>, TokenFault>,
-> Grammar<E, S>
-{
+> Grammar<E, S> {
     /// A power, or what may stand in one.
     pub fn power(&self, reader: &mut TokenReader<'_>) -> Result<Value, TokenFault>
         requires knot { Knot self.now.room (E.pre self.now.expr) (E.post self.now.expr) (S.pre self.now.stmts) (S.post self.now.stmts) }
@@ -76,7 +75,15 @@ impl<
             op,
             operand: operand.node,
         };
-        value(self.alloc, reader, self.room, node, operand.height, rank, false)
+        value(
+            self.alloc,
+            reader,
+            self.room,
+            node,
+            operand.height,
+            rank,
+            false,
+        )
     }
 
     /// A target and `++` or `--` on its line, or the expression alone.

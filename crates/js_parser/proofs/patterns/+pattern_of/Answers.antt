@@ -40,5 +40,5 @@ returns-in_ok-new-in_default t c =
     let same : c.args.target ≡ c.in_ok-new-in_default.field-0 = cc in
     record {
       made = subst (λ (x : Expr). Covers c.args.target (bound.Member x) × (c.args.height + 1 ≡ (pattern (bound.Member x)).height)) same
-        (chain_covered c.args.target c.args.height c.requires.place c.requires.height (λ name is. c.in_default.not-Name name (inner ∙ is)) (λ begin x end is. c.in_default.not-Paren begin x end (inner ∙ is)));
+          (chain_covered c.args.target c.args.height c.requires.place c.requires.height (λ name is. c.in_default.not-Name name (inner ∙ is)) (λ begin x end is. c.in_default.not-Paren begin x end (inner ∙ is)));
     }

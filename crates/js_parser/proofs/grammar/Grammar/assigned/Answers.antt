@@ -110,7 +110,7 @@ returns g c =
     record {
       reads = made_on AssignsTo _ _ _ 1 _ _ _ _ c.value.ensures.made (omega arith)
           (λ p before. assign_read c.args.first.node target c.in_ok-op.op c.in_ok-given.given.node _ rolls m.0 p _
-              (λ rest r. before (Tok c.in_ok-op.op is_assignment ∷ expr_line c.in_ok-given.given.node rest) (_, op.0, assigns _ _ (strength.all _ _ op.0 op.1), w.found.0 rest r)))
+          (λ rest r. before (Tok c.in_ok-op.op is_assignment ∷ expr_line c.in_ok-given.given.node rest) (_, op.0, assigns _ _ (strength.all _ _ op.0 op.1), w.found.0 rest r)))
           (passes_on _ _ _ c.in_ok-op.ensures.moves w.moves) (omega (arith, c.in_ok-op.ensures.shorter, w.shorter))
           (λ v behind rest a at s r.
           let u = given_view _ _ v behind rest _ strength at s a r in

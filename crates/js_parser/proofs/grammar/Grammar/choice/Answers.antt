@@ -62,7 +62,7 @@ arms-preserved g c =
     let w = c.in_ok-arm.ensures.reads in
     record {
       chosen = subst (λ (arms : List (Arm Expr)). Chosen c.args.self.now.room c.args.first c.args.reader.now arms c.in_ok-test.test c.inner.new.reader) (sym all_is)
-        (chosen_more _ _ _ _ _ _ i.chosen c.requires.some strength c.in_ok-arm.field-0 _ w c.in_ok-test.test _ c.in_ok-test.ensures.reads);
+          (chosen_more _ _ _ _ _ _ i.chosen c.requires.some strength c.in_ok-arm.field-0 _ w c.in_ok-test.test _ c.in_ok-test.ensures.reads);
       first = λ e. absurd (true≢false (sym e ∙ ap is_empty all_is ∙ some_pushed c.arms.arms arm));
       height = c.higher-height.ensures ∙ (λ k. max (i.height k) (w.found.2 k)) ∙ sym (tallest-push arm_height c.arms.arms arm) ∙ sym (ap (tallest_of arm_height) all_is);
       shorter = omega (arith, i.shorter, w.shorter, c.in_ok-test.ensures.reads.shorter);

@@ -51,8 +51,10 @@ returns g c =
           w.moves (omega (arith, w.shorter))
           (λ v behind rest a at s r.
           let u = joined_others _ c.requires.rank _ v behind rest _ strength s a r in
-          let g0 = w.only (tall_others u.others) rest u.read (others_at _ _ c.requires.rank v _ u.others u.is u.each u.some at) u.stops in
-          (sym (node_of c.listed-node.result (list_layer c.args.rank c.args.first.node c.in_ok-others.others.node) c.listed-node.ensures)
-          ∙ ap (λ (t : Tall (List (Further Expr))). roll-Expr (list_layer c.args.rank c.args.first.node t.node)) g0.0
-          ∙ node_of v.node (list_layer c.args.rank c.args.first.node u.others) u.is, g0.1));
+          let g0 = w.only (tall_others u.others) rest u.read (others_at _ _ c.requires.rank v _ u.others u.is u.each u.some at) u.stops in (
+            sym (node_of c.listed-node.result (list_layer c.args.rank c.args.first.node c.in_ok-others.others.node) c.listed-node.ensures)
+                ∙ ap (λ (t : Tall (List (Further Expr))). roll-Expr (list_layer c.args.rank c.args.first.node t.node)) g0.0
+                ∙ node_of v.node (list_layer c.args.rank c.args.first.node u.others) u.is,
+            g0.1,
+          ));
     }

@@ -70,11 +70,14 @@ returns g c =
     record {
       reads = made _ _ 14 _ _ _ _ c.value.ensures.made (omega (arith, c.rank_of-rank.ensures, least-Unary c.is_update-updates.result))
           (read_at (Expr-F.Unary c.in_ok-op.op c.in_ok-operand.operand.node) _ (rolls-Unary c.in_ok-op.op c.in_ok-operand.operand.node) _ _
-          (λ rest r.
-              (w.stands,
-              (may_stand (is_update (kind_of c.in_ok-op.op)) (expr c.in_ok-operand.operand.node).is_target (expr c.in_ok-operand.operand.node).is_sound (sound_at 14 _ _ w)
-              ((λ i. not (same i) || sym w.target i) ∙ sym c.may_operate.ensures ∙ c.if-not-may_operate.false),
-              (_, op.0, ap is_unary (told _ _ _ _ before.1 op.0 op.1) ∙ before.2, c.in_ok-operand.ensures.reads.found.0 rest r)))))
+          (λ rest r. (
+            w.stands,
+            (
+              may_stand (is_update (kind_of c.in_ok-op.op)) (expr c.in_ok-operand.operand.node).is_target (expr c.in_ok-operand.operand.node).is_sound (sound_at 14 _ _ w)
+                  ((λ i. not (same i) || sym w.target i) ∙ sym c.may_operate.ensures ∙ c.if-not-may_operate.false),
+              (_, op.0, ap is_unary (told _ _ _ _ before.1 op.0 op.1) ∙ before.2, c.in_ok-operand.ensures.reads.found.0 rest r),
+            ),
+          )))
           (passes_on _ _ _ c.in_ok-op.ensures.moves c.in_ok-operand.ensures.reads.moves)
           (omega (arith, c.in_ok-op.ensures.shorter, c.in_ok-operand.ensures.reads.shorter))
           (λ x rest r at s.

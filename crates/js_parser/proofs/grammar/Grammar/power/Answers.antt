@@ -72,10 +72,13 @@ returns g c =
     record {
       reads = made 13 _ 13 _ _ _ _ c.value.ensures.made (omega arith)
           (read_at (Expr-F.Power c.in_ok-base.base.node c.in_ok-op.op c.in_ok-exponent.exponent.node) _ (rolls-Power c.in_ok-base.base.node c.in_ok-op.op c.in_ok-exponent.exponent.node) _ _
-          (λ rest r.
-              (base_stands _ c.in_ok-base.base c.in_ok-base.ensures.reads.found.1 (omega (arith, c.if-base-lt15.false)),
-              (c.in_ok-exponent.ensures.reads.found.1.stands,
-              c.in_ok-base.ensures.reads.found.0 _ (_, op.0, is_stars _ _ (strength.all _ _ op.0 op.1), c.in_ok-exponent.ensures.reads.found.0 rest r)))))
+          (λ rest r. (
+            base_stands _ c.in_ok-base.base c.in_ok-base.ensures.reads.found.1 (omega (arith, c.if-base-lt15.false)),
+            (
+              c.in_ok-exponent.ensures.reads.found.1.stands,
+              c.in_ok-base.ensures.reads.found.0 _ (_, op.0, is_stars _ _ (strength.all _ _ op.0 op.1), c.in_ok-exponent.ensures.reads.found.0 rest r),
+            ),
+          )))
           (passes_on _ _ _ (passes_on _ _ _ c.in_ok-base.ensures.reads.moves c.in_ok-op.ensures.moves) c.in_ok-exponent.ensures.reads.moves)
           (omega (arith, c.in_ok-base.ensures.reads.shorter, c.in_ok-op.ensures.shorter, c.in_ok-exponent.ensures.reads.shorter))
           (λ x rest r at s.
