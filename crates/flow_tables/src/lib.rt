@@ -6,7 +6,13 @@
 #[cfg(test)]
 mod calls;
 #[cfg(test)]
+mod constraints_lines;
+#[cfg(test)]
+mod constraints_tests;
+#[cfg(test)]
 mod functions;
+#[cfg(test)]
+mod member_tests;
 #[cfg(test)]
 mod names;
 #[cfg(test)]
