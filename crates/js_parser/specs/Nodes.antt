@@ -3,6 +3,7 @@ use Rattle.std.specs.Prelude.{◌≡◌, ℕ, ◌+◌, ◌≤◌, ◌<◌, ◌==
 use Rattle.std.specs.List.{list_all}
 use Rattle.std.specs.Str.{bytes_eq}
 use Rattle.std.specs.declared.alloc.Global.{Global}
+use denote.Param.Members.{Shared}
 use denote.Ref.{MutBor}
 use Rattle.js_tree.specs.declared.lists.Arm.{Arm}
 use Rattle.js_tree.specs.declared.lists.Block.{Block}
@@ -36,6 +37,7 @@ use Rattle.js_tree.specs.Spelling.Rows.{mark, each_of, maybe, init_row, arm_row,
 use Rattle.js_tree.specs.TokenKinds.{is}
 use Rattle.js_tokens.specs.Pieces.{Reads, Read, OnlyRead, Gives, Moves, Refuses, Anywhere}
 use Rattle.js_tokens.specs.declared.fault.TokenFault.{TokenFault}
+use Rattle.js_parser.specs.declared.grammar.Grammar.{Grammar}
 use Rattle.js_parser.specs.declared.tall.Tall.{Tall}
 use Rattle.js_parser.specs.declared.tall.Value.{Value}
 use Rattle.js_parser.specs.Following.{Stops, NoKind, Leads, rest_level, separates, begins_tail}
@@ -454,13 +456,17 @@ ReadsStmts room = ReadsMaybe (λ x. stmts x.node) (StmtsAt room) (λ x. Closes)
 
 -- THE KNOT
 
--- function values that read what stands in a node, with less room: an expression of a level, and statements
-pub record Knot (limit : ℕ)
-    (expr_pre : Global → MutBor Place → ℕ → ℕ → Type 0) (expr_post : Global → MutBor Place → ℕ → ℕ → Result Value TokenFault → MutBor Place → Type 0)
-    (stmts_pre : Global → MutBor Place → ℕ → Type 0) (stmts_post : Global → MutBor Place → ℕ → Result (Tall (List Stmt)) TokenFault → MutBor Place → Type 0) : Type 0 where
-  pub expr_callable : (alloc : Global) (old : MutBor Place) (room level : ℕ) → room < limit → is_level level ≡ true → expr_pre alloc old room level
-  pub expr_reads : (alloc : Global) (old new : MutBor Place) (room level : ℕ) (r : Result Value TokenFault) → room < limit → is_level level ≡ true → expr_post alloc old room level r new
-      → ReadsExpr level room old.now new.now r
-  pub stmts_callable : (alloc : Global) (old : MutBor Place) (room : ℕ) → room < limit → stmts_pre alloc old room
-  pub stmts_read : (alloc : Global) (old new : MutBor Place) (room : ℕ) (r : Result (Tall (List Stmt)) TokenFault) → room < limit → stmts_post alloc old room r new
+-- what a call of a reader leaves: its answer, and the place behind what it read
+abbrev pub Leaves : Type 0 → Type 0
+Leaves X = Result X TokenFault × (MutBor Place × Unit {0})
+
+-- the readers that the rules hold read what stands in a node, with less room than the rules have: an expression of a
+-- level, and statements
+pub record Knot {E S : Type 0} (expr_reader : Shared E (Global × (MutBor Place × (ℕ × (ℕ × Unit {0})))) (Leaves Value)) (stmts_reader : Shared S (Global × (MutBor Place × (ℕ × Unit {0}))) (Leaves (Tall (List Stmt))))
+    (rules : Grammar E S) : Type 0 where
+  pub expr_callable : (alloc : Global) (old : MutBor Place) (room level : ℕ) → room < rules.room → is_level level ≡ true → expr_reader.pre rules.expr (alloc, (old, (room, (level, tt))))
+  pub expr_reads : (alloc : Global) (old new : MutBor Place) (room level : ℕ) (r : Result Value TokenFault) → room < rules.room → is_level level ≡ true
+      → expr_reader.post rules.expr (alloc, (old, (room, (level, tt)))) (r, (new, tt)) → ReadsExpr level room old.now new.now r
+  pub stmts_callable : (alloc : Global) (old : MutBor Place) (room : ℕ) → room < rules.room → stmts_reader.pre rules.stmts (alloc, (old, (room, tt)))
+  pub stmts_read : (alloc : Global) (old new : MutBor Place) (room : ℕ) (r : Result (Tall (List Stmt)) TokenFault) → room < rules.room → stmts_reader.post rules.stmts (alloc, (old, (room, tt))) (r, (new, tt))
       → ReadsStmts room old.now new.now r

@@ -20,7 +20,7 @@ impl<
 > Grammar<E, S> {
     /// An assignment, a choice, or an expression of a higher level.
     pub fn assignment(&self, reader: &mut TokenReader<'_>) -> Result<Value, TokenFault>
-        requires knot { Knot self.now.room (E.pre self.now.expr) (E.post self.now.expr) (S.pre self.now.stmts) (S.post self.now.stmts) }
+        requires knot { Knot E.Fn S.Fn self.now }
         requires some { 0 < self.now.room }
         ensures reads { ReadsExpr 1 self.now.room reader.old reader.new result }
     {
@@ -33,7 +33,7 @@ impl<
 
     // What is assigned to the expression, where it is a target and an operator follows; else the expression.
     fn assigned(&self, reader: &mut TokenReader<'_>, first: Value) -> Result<Value, TokenFault>
-        requires knot { Knot self.now.room (E.pre self.now.expr) (E.post self.now.expr) (S.pre self.now.stmts) (S.post self.now.stmts) }
+        requires knot { Knot E.Fn S.Fn self.now }
         requires some { 0 < self.now.room }
         requires first { ValueAt 3 self.now.room first }
         ensures reads { GoesOn AssignsTo 1 self.now.room first reader.old reader.new result }
@@ -62,7 +62,7 @@ impl<
 
     // A choice whose first test is given.
     fn choice(&self, reader: &mut TokenReader<'_>, first: Value) -> Result<Value, TokenFault>
-        requires knot { Knot self.now.room (E.pre self.now.expr) (E.post self.now.expr) (S.pre self.now.stmts) (S.post self.now.stmts) }
+        requires knot { Knot E.Fn S.Fn self.now }
         requires some { 0 < self.now.room }
         requires first { ValueAt 3 self.now.room first }
         ensures reads { GoesOn Chooses 1 self.now.room first reader.old reader.new result }
@@ -97,7 +97,7 @@ impl<
         reader: &mut TokenReader<'_>,
         test: Value,
     ) -> Result<Tall<Arm<Boxed<Expr>>>, TokenFault>
-        requires knot { Knot self.now.room (E.pre self.now.expr) (E.post self.now.expr) (S.pre self.now.stmts) (S.post self.now.stmts) }
+        requires knot { Knot E.Fn S.Fn self.now }
         requires some { 0 < self.now.room }
         requires test { ValueAt 3 self.now.room test }
         ensures reads { ReadsArm self.now.room test reader.old reader.new result }

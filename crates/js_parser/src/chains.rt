@@ -46,7 +46,7 @@ impl<
 > Grammar<E, S> {
     /// A chain, what `new` makes, or a primary.
     pub fn chain(&self, reader: &mut TokenReader<'_>) -> Result<Value, TokenFault>
-        requires knot { Knot self.now.room (E.pre self.now.expr) (E.post self.now.expr) (S.pre self.now.stmts) (S.post self.now.stmts) }
+        requires knot { Knot E.Fn S.Fn self.now }
         requires some { 0 < self.now.room }
         ensures reads { ReadsExpr 17 self.now.room reader.old reader.new result }
     {
@@ -73,7 +73,7 @@ impl<
 
     /// What `new` makes, or a primary.
     pub fn head(&self, reader: &mut TokenReader<'_>) -> Result<Value, TokenFault>
-        requires knot { Knot self.now.room (E.pre self.now.expr) (E.post self.now.expr) (S.pre self.now.stmts) (S.post self.now.stmts) }
+        requires knot { Knot E.Fn S.Fn self.now }
         requires some { 0 < self.now.room }
         ensures reads { ReadsExpr 18 self.now.room reader.old reader.new result }
     {
@@ -85,7 +85,7 @@ impl<
 
     // What `new` makes, or `new.target`.
     fn made(&self, reader: &mut TokenReader<'_>) -> Result<Value, TokenFault>
-        requires knot { Knot self.now.room (E.pre self.now.expr) (E.post self.now.expr) (S.pre self.now.stmts) (S.post self.now.stmts) }
+        requires knot { Knot E.Fn S.Fn self.now }
         requires some { 0 < self.now.room }
         requires told { IsNextKind reader.old kinds.New }
         ensures reads { ReadsExpr 18 self.now.room reader.old reader.new result }
@@ -131,7 +131,7 @@ impl<
         &self,
         reader: &mut TokenReader<'_>,
     ) -> Result<Tall<Option<Boxed<Bracket<Boxed<Expr>>>>>, TokenFault>
-        requires knot { Knot self.now.room (E.pre self.now.expr) (E.post self.now.expr) (S.pre self.now.stmts) (S.post self.now.stmts) }
+        requires knot { Knot E.Fn S.Fn self.now }
         requires some { 0 < self.now.room }
         ensures reads { ReadsMaybeArguments (self.now.room - 1) reader.old reader.new result }
     {

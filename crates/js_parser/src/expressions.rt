@@ -18,7 +18,7 @@ impl<
 > Grammar<E, S> {
     /// An expression of the level.
     pub fn expression(&self, reader: &mut TokenReader<'_>, level: u8) -> Result<Value, TokenFault>
-        requires knot { Knot self.now.room (E.pre self.now.expr) (E.post self.now.expr) (S.pre self.now.stmts) (S.post self.now.stmts) }
+        requires knot { Knot E.Fn S.Fn self.now }
         requires level { is_level level ≡ true }
         ensures reads { ReadsExpr level self.now.room reader.old reader.new result }
     {
@@ -36,7 +36,7 @@ impl<
 
     // A list by commas, or an expression of another level.
     fn comma(&self, reader: &mut TokenReader<'_>) -> Result<Value, TokenFault>
-        requires knot { Knot self.now.room (E.pre self.now.expr) (E.post self.now.expr) (S.pre self.now.stmts) (S.post self.now.stmts) }
+        requires knot { Knot E.Fn S.Fn self.now }
         requires some { 0 < self.now.room }
         ensures reads { ReadsExpr 0 self.now.room reader.old reader.new result }
     {
@@ -46,7 +46,7 @@ impl<
 
     /// Operands with operators of this rank, from 3 to 12, and higher ones.
     pub fn binary(&self, reader: &mut TokenReader<'_>, lowest: u8) -> Result<Value, TokenFault>
-        requires knot { Knot self.now.room (E.pre self.now.expr) (E.post self.now.expr) (S.pre self.now.stmts) (S.post self.now.stmts) }
+        requires knot { Knot E.Fn S.Fn self.now }
         requires some { 0 < self.now.room }
         requires least { 3 ≤ lowest }
         requires most { lowest ≤ 13 }
@@ -68,7 +68,7 @@ impl<
         first: Value,
         rank: u8,
     ) -> Result<Value, TokenFault>
-        requires knot { Knot self.now.room (E.pre self.now.expr) (E.post self.now.expr) (S.pre self.now.stmts) (S.post self.now.stmts) }
+        requires knot { Knot E.Fn S.Fn self.now }
         requires some { 0 < self.now.room }
         requires rank { IsListRank rank }
         requires first { ValueAt (rank + 1) self.now.room first }
@@ -89,7 +89,7 @@ impl<
         reader: &mut TokenReader<'_>,
         rank: u8,
     ) -> Result<Tall<Items<Further<Boxed<Expr>>>>, TokenFault>
-        requires knot { Knot self.now.room (E.pre self.now.expr) (E.post self.now.expr) (S.pre self.now.stmts) (S.post self.now.stmts) }
+        requires knot { Knot E.Fn S.Fn self.now }
         requires some { 0 < self.now.room }
         requires rank { IsListRank rank }
         ensures reads { ReadsOperands rank (self.now.room - 1) reader.old reader.new result }
@@ -121,7 +121,7 @@ impl<
         reader: &mut TokenReader<'_>,
         rank: u8,
     ) -> Result<Tall<Further<Boxed<Expr>>>, TokenFault>
-        requires knot { Knot self.now.room (E.pre self.now.expr) (E.post self.now.expr) (S.pre self.now.stmts) (S.post self.now.stmts) }
+        requires knot { Knot E.Fn S.Fn self.now }
         requires some { 0 < self.now.room }
         requires rank { IsListRank rank }
         ensures reads { ReadsOperand rank (self.now.room - 1) reader.old reader.new result }

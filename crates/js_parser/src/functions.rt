@@ -17,7 +17,7 @@ impl<
 > Grammar<E, S> {
     /// A function with the word `function`.
     pub fn function(&self, reader: &mut TokenReader<'_>) -> Result<Tall<Function>, TokenFault>
-        requires knot { Knot self.now.room (E.pre self.now.expr) (E.post self.now.expr) (S.pre self.now.stmts) (S.post self.now.stmts) }
+        requires knot { Knot E.Fn S.Fn self.now }
         requires some { 0 < self.now.room }
         ensures reads { ReadsFunction (self.now.room - 1) reader.old reader.new result }
     {
@@ -38,7 +38,7 @@ impl<
 
     // Statements in braces.
     fn block(&self, reader: &mut TokenReader<'_>) -> Result<Tall<Block<Stmt>>, TokenFault>
-        requires knot { Knot self.now.room (E.pre self.now.expr) (E.post self.now.expr) (S.pre self.now.stmts) (S.post self.now.stmts) }
+        requires knot { Knot E.Fn S.Fn self.now }
         requires some { 0 < self.now.room }
         ensures reads { ReadsBlock (self.now.room - 1) reader.old reader.new result }
     {

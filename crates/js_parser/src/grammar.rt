@@ -28,7 +28,7 @@ impl<
 {
     /// An expression of the level in a node.
     pub fn inner(&self, reader: &mut TokenReader<'_>, level: u8) -> Result<Value, TokenFault>
-        requires knot { Knot self.now.room (E.pre self.now.expr) (E.post self.now.expr) (S.pre self.now.stmts) (S.post self.now.stmts) }
+        requires knot { Knot E.Fn S.Fn self.now }
         requires some { 0 < self.now.room }
         requires level { is_level level ≡ true }
         ensures reads { ReadsExpr level (self.now.room - 1) reader.old reader.new result }
@@ -41,7 +41,7 @@ impl<
         &self,
         reader: &mut TokenReader<'_>,
     ) -> Result<Tall<Items<Stmt>>, TokenFault>
-        requires knot { Knot self.now.room (E.pre self.now.expr) (E.post self.now.expr) (S.pre self.now.stmts) (S.post self.now.stmts) }
+        requires knot { Knot E.Fn S.Fn self.now }
         requires some { 0 < self.now.room }
         ensures reads { ReadsStmts (self.now.room - 1) reader.old reader.new result }
     {

@@ -21,7 +21,7 @@ impl<
 > Grammar<E, S> {
     /// A power, or what may stand in one.
     pub fn power(&self, reader: &mut TokenReader<'_>) -> Result<Value, TokenFault>
-        requires knot { Knot self.now.room (E.pre self.now.expr) (E.post self.now.expr) (S.pre self.now.stmts) (S.post self.now.stmts) }
+        requires knot { Knot E.Fn S.Fn self.now }
         requires some { 0 < self.now.room }
         ensures reads { ReadsExpr 13 self.now.room reader.old reader.new result }
     {
@@ -45,7 +45,7 @@ impl<
 
     /// An operator and its operand, or an expression without one before it.
     pub fn unary(&self, reader: &mut TokenReader<'_>) -> Result<Value, TokenFault>
-        requires knot { Knot self.now.room (E.pre self.now.expr) (E.post self.now.expr) (S.pre self.now.stmts) (S.post self.now.stmts) }
+        requires knot { Knot E.Fn S.Fn self.now }
         requires some { 0 < self.now.room }
         ensures reads { ReadsExpr 14 self.now.room reader.old reader.new result }
     {
@@ -59,7 +59,7 @@ impl<
     // An operator and its operand.
     fn operation(&self, reader: &mut TokenReader<'_>) -> Result<Value, TokenFault>
         requires told { Leads operators.is_unary reader.old }
-        requires knot { Knot self.now.room (E.pre self.now.expr) (E.post self.now.expr) (S.pre self.now.stmts) (S.post self.now.stmts) }
+        requires knot { Knot E.Fn S.Fn self.now }
         requires some { 0 < self.now.room }
         ensures reads { ReadsExpr 14 self.now.room reader.old reader.new result }
     {
@@ -88,7 +88,7 @@ impl<
 
     /// A target and `++` or `--` on its line, or the expression alone.
     pub fn postfix(&self, reader: &mut TokenReader<'_>) -> Result<Value, TokenFault>
-        requires knot { Knot self.now.room (E.pre self.now.expr) (E.post self.now.expr) (S.pre self.now.stmts) (S.post self.now.stmts) }
+        requires knot { Knot E.Fn S.Fn self.now }
         requires some { 0 < self.now.room }
         ensures reads { ReadsExpr 16 self.now.room reader.old reader.new result }
     {

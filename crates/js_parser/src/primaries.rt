@@ -23,7 +23,7 @@ impl<
 {
     /// A primary.
     pub fn primary(&self, reader: &mut TokenReader<'_>) -> Result<Value, TokenFault>
-        requires knot { Knot self.now.room (E.pre self.now.expr) (E.post self.now.expr) (S.pre self.now.stmts) (S.post self.now.stmts) }
+        requires knot { Knot E.Fn S.Fn self.now }
         requires some { 0 < self.now.room }
         requires told { Leads (λ k. not (is kinds.New k)) reader.old }
         ensures reads { ReadsExpr 18 self.now.room reader.old reader.new result }
@@ -40,7 +40,7 @@ impl<
     }
 
     fn name(&self, reader: &mut TokenReader<'_>) -> Result<Value, TokenFault>
-        requires knot { Knot self.now.room (E.pre self.now.expr) (E.post self.now.expr) (S.pre self.now.stmts) (S.post self.now.stmts) }
+        requires knot { Knot E.Fn S.Fn self.now }
         requires some { 0 < self.now.room }
         requires told { LeadsTo sorts.Name reader.old }
         ensures reads { ReadsExpr 18 self.now.room reader.old reader.new result }
@@ -50,7 +50,7 @@ impl<
     }
 
     fn this(&self, reader: &mut TokenReader<'_>) -> Result<Value, TokenFault>
-        requires knot { Knot self.now.room (E.pre self.now.expr) (E.post self.now.expr) (S.pre self.now.stmts) (S.post self.now.stmts) }
+        requires knot { Knot E.Fn S.Fn self.now }
         requires some { 0 < self.now.room }
         requires told { LeadsTo sorts.This reader.old }
         ensures reads { ReadsExpr 18 self.now.room reader.old reader.new result }
@@ -61,7 +61,7 @@ impl<
 
     // A literal; a `/` begins a regular expression here.
     fn literal(&self, reader: &mut TokenReader<'_>) -> Result<Value, TokenFault>
-        requires knot { Knot self.now.room (E.pre self.now.expr) (E.post self.now.expr) (S.pre self.now.stmts) (S.post self.now.stmts) }
+        requires knot { Knot E.Fn S.Fn self.now }
         requires some { 0 < self.now.room }
         requires told { LeadsTo sorts.Literal reader.old }
         ensures reads { ReadsExpr 18 self.now.room reader.old reader.new result }
@@ -72,7 +72,7 @@ impl<
 
     // An expression in round brackets.
     fn parenthesized(&self, reader: &mut TokenReader<'_>) -> Result<Value, TokenFault>
-        requires knot { Knot self.now.room (E.pre self.now.expr) (E.post self.now.expr) (S.pre self.now.stmts) (S.post self.now.stmts) }
+        requires knot { Knot E.Fn S.Fn self.now }
         requires some { 0 < self.now.room }
         requires told { LeadsTo sorts.Paren reader.old }
         ensures reads { ReadsExpr 18 self.now.room reader.old reader.new result }
@@ -91,7 +91,7 @@ impl<
     }
 
     fn template_value(&self, reader: &mut TokenReader<'_>) -> Result<Value, TokenFault>
-        requires knot { Knot self.now.room (E.pre self.now.expr) (E.post self.now.expr) (S.pre self.now.stmts) (S.post self.now.stmts) }
+        requires knot { Knot E.Fn S.Fn self.now }
         requires some { 0 < self.now.room }
         requires told { LeadsTo sorts.Template reader.old }
         ensures reads { ReadsExpr 18 self.now.room reader.old reader.new result }
@@ -102,7 +102,7 @@ impl<
 
     // A function as a value.
     fn function_value(&self, reader: &mut TokenReader<'_>) -> Result<Value, TokenFault>
-        requires knot { Knot self.now.room (E.pre self.now.expr) (E.post self.now.expr) (S.pre self.now.stmts) (S.post self.now.stmts) }
+        requires knot { Knot E.Fn S.Fn self.now }
         requires some { 0 < self.now.room }
         requires told { LeadsTo sorts.Function reader.old }
         ensures reads { ReadsExpr 18 self.now.room reader.old reader.new result }

@@ -20,7 +20,7 @@ impl<
 > Grammar<E, S> {
     /// Statements, up to a `}` or the end.
     pub fn statements(&self, reader: &mut TokenReader<'_>) -> Result<Tall<Items<Stmt>>, TokenFault>
-        requires knot { Knot self.now.room (E.pre self.now.expr) (E.post self.now.expr) (S.pre self.now.stmts) (S.post self.now.stmts) }
+        requires knot { Knot E.Fn S.Fn self.now }
         ensures reads { ReadsStmts self.now.room reader.old reader.new result }
     {
         let mut all = Items::new(self.alloc);
@@ -41,7 +41,7 @@ impl<
 
     // A statement.
     fn statement(&self, reader: &mut TokenReader<'_>) -> Result<Tall<Stmt>, TokenFault>
-        requires knot { Knot self.now.room (E.pre self.now.expr) (E.post self.now.expr) (S.pre self.now.stmts) (S.post self.now.stmts) }
+        requires knot { Knot E.Fn S.Fn self.now }
         requires some { 0 < self.now.room }
         ensures reads { ReadsStmt self.now.room reader.old reader.new result }
     {
@@ -56,7 +56,7 @@ impl<
 
     // The declaration of a function.
     fn declaration(&self, reader: &mut TokenReader<'_>) -> Result<Tall<Stmt>, TokenFault>
-        requires knot { Knot self.now.room (E.pre self.now.expr) (E.post self.now.expr) (S.pre self.now.stmts) (S.post self.now.stmts) }
+        requires knot { Knot E.Fn S.Fn self.now }
         requires some { 0 < self.now.room }
         requires told { LeadsToStmt sorts.Function reader.old }
         ensures reads { ReadsStmt self.now.room reader.old reader.new result }
@@ -75,7 +75,7 @@ impl<
 
     // The declaration of variables.
     fn variables(&self, reader: &mut TokenReader<'_>) -> Result<Tall<Stmt>, TokenFault>
-        requires knot { Knot self.now.room (E.pre self.now.expr) (E.post self.now.expr) (S.pre self.now.stmts) (S.post self.now.stmts) }
+        requires knot { Knot E.Fn S.Fn self.now }
         requires some { 0 < self.now.room }
         requires told { LeadsToStmt sorts.Var reader.old }
         ensures reads { ReadsStmt self.now.room reader.old reader.new result }
@@ -100,7 +100,7 @@ impl<
         &self,
         reader: &mut TokenReader<'_>,
     ) -> Result<Tall<Items<Further<Slot>>>, TokenFault>
-        requires knot { Knot self.now.room (E.pre self.now.expr) (E.post self.now.expr) (S.pre self.now.stmts) (S.post self.now.stmts) }
+        requires knot { Knot E.Fn S.Fn self.now }
         requires some { 0 < self.now.room }
         ensures reads { ReadsSlots (self.now.room - 1) reader.old reader.new result }
     {
@@ -116,7 +116,7 @@ impl<
 
     // A further declaration with its comma.
     fn further_slot(&self, reader: &mut TokenReader<'_>) -> Result<Tall<Further<Slot>>, TokenFault>
-        requires knot { Knot self.now.room (E.pre self.now.expr) (E.post self.now.expr) (S.pre self.now.stmts) (S.post self.now.stmts) }
+        requires knot { Knot E.Fn S.Fn self.now }
         requires some { 0 < self.now.room }
         ensures reads { ReadsFurtherSlot (self.now.room - 1) reader.old reader.new result }
     {
@@ -133,7 +133,7 @@ impl<
 
     // A name that is declared, and what it is given.
     fn slot(&self, reader: &mut TokenReader<'_>) -> Result<Tall<Slot>, TokenFault>
-        requires knot { Knot self.now.room (E.pre self.now.expr) (E.post self.now.expr) (S.pre self.now.stmts) (S.post self.now.stmts) }
+        requires knot { Knot E.Fn S.Fn self.now }
         requires some { 0 < self.now.room }
         ensures reads { ReadsSlot (self.now.room - 1) reader.old reader.new result }
     {
@@ -156,7 +156,7 @@ impl<
         &self,
         reader: &mut TokenReader<'_>,
     ) -> Result<Tall<Option<Init<Boxed<Expr>>>>, TokenFault>
-        requires knot { Knot self.now.room (E.pre self.now.expr) (E.post self.now.expr) (S.pre self.now.stmts) (S.post self.now.stmts) }
+        requires knot { Knot E.Fn S.Fn self.now }
         requires some { 0 < self.now.room }
         ensures reads { ReadsInit (self.now.room - 1) reader.old reader.new result }
     {
@@ -179,7 +179,7 @@ impl<
 
     // The end of a function, with what it gives where that stands on its line.
     fn end_of_function(&self, reader: &mut TokenReader<'_>) -> Result<Tall<Stmt>, TokenFault>
-        requires knot { Knot self.now.room (E.pre self.now.expr) (E.post self.now.expr) (S.pre self.now.stmts) (S.post self.now.stmts) }
+        requires knot { Knot E.Fn S.Fn self.now }
         requires some { 0 < self.now.room }
         requires told { LeadsToStmt sorts.Return reader.old }
         ensures reads { ReadsStmt self.now.room reader.old reader.new result }
@@ -199,7 +199,7 @@ impl<
 
     // What a function gives, on the line of its word, where it gives anything.
     fn given(&self, reader: &mut TokenReader<'_>) -> Result<Tall<Option<Boxed<Expr>>>, TokenFault>
-        requires knot { Knot self.now.room (E.pre self.now.expr) (E.post self.now.expr) (S.pre self.now.stmts) (S.post self.now.stmts) }
+        requires knot { Knot E.Fn S.Fn self.now }
         requires some { 0 < self.now.room }
         ensures reads { ReadsGiven (self.now.room - 1) reader.old reader.new result }
     {
@@ -221,7 +221,7 @@ impl<
 
     // An expression as a statement.
     fn plain(&self, reader: &mut TokenReader<'_>) -> Result<Tall<Stmt>, TokenFault>
-        requires knot { Knot self.now.room (E.pre self.now.expr) (E.post self.now.expr) (S.pre self.now.stmts) (S.post self.now.stmts) }
+        requires knot { Knot E.Fn S.Fn self.now }
         requires some { 0 < self.now.room }
         requires told { LeadsToStmt sorts.Plain reader.old }
         ensures reads { ReadsStmt self.now.room reader.old reader.new result }

@@ -52,7 +52,7 @@ impl<
         reader: &mut TokenReader<'_>,
         calls: bool,
     ) -> Result<Tall<Items<Tail<Boxed<Expr>>>>, TokenFault>
-        requires knot { Knot self.now.room (E.pre self.now.expr) (E.post self.now.expr) (S.pre self.now.stmts) (S.post self.now.stmts) }
+        requires knot { Knot E.Fn S.Fn self.now }
         requires some { 0 < self.now.room }
         ensures reads { ReadsTails calls (self.now.room - 1) reader.old reader.new result }
     {
@@ -68,7 +68,7 @@ impl<
 
     // A tail.
     fn tail(&self, reader: &mut TokenReader<'_>) -> Result<Tall<Tail<Boxed<Expr>>>, TokenFault>
-        requires knot { Knot self.now.room (E.pre self.now.expr) (E.post self.now.expr) (S.pre self.now.stmts) (S.post self.now.stmts) }
+        requires knot { Knot E.Fn S.Fn self.now }
         requires some { 0 < self.now.room }
         ensures reads { ReadsTail (self.now.room - 1) reader.old reader.new result }
         ensures call { CallsHere reader.old result }
@@ -109,7 +109,7 @@ impl<
 
     // A member by a value.
     fn index(&self, reader: &mut TokenReader<'_>) -> Result<Tall<Tail<Boxed<Expr>>>, TokenFault>
-        requires knot { Knot self.now.room (E.pre self.now.expr) (E.post self.now.expr) (S.pre self.now.stmts) (S.post self.now.stmts) }
+        requires knot { Knot E.Fn S.Fn self.now }
         requires some { 0 < self.now.room }
         requires told { IsNextKind reader.old kinds.LeftBracket }
         ensures reads { ReadsTail (self.now.room - 1) reader.old reader.new result }
@@ -133,7 +133,7 @@ impl<
         &self,
         reader: &mut TokenReader<'_>,
     ) -> Result<Tall<Bracket<Boxed<Expr>>>, TokenFault>
-        requires knot { Knot self.now.room (E.pre self.now.expr) (E.post self.now.expr) (S.pre self.now.stmts) (S.post self.now.stmts) }
+        requires knot { Knot E.Fn S.Fn self.now }
         requires some { 0 < self.now.room }
         ensures reads { ReadsArguments (self.now.room - 1) reader.old reader.new result }
     {
@@ -167,7 +167,7 @@ impl<
         &self,
         reader: &mut TokenReader<'_>,
     ) -> Result<Tall<Element<Boxed<Expr>>>, TokenFault>
-        requires knot { Knot self.now.room (E.pre self.now.expr) (E.post self.now.expr) (S.pre self.now.stmts) (S.post self.now.stmts) }
+        requires knot { Knot E.Fn S.Fn self.now }
         requires some { 0 < self.now.room }
         ensures reads { ReadsElement (self.now.room - 1) reader.old reader.new result }
     {
@@ -187,7 +187,7 @@ impl<
         &self,
         reader: &mut TokenReader<'_>,
     ) -> Result<Tall<Template<Boxed<Expr>>>, TokenFault>
-        requires knot { Knot self.now.room (E.pre self.now.expr) (E.post self.now.expr) (S.pre self.now.stmts) (S.post self.now.stmts) }
+        requires knot { Knot E.Fn S.Fn self.now }
         requires some { 0 < self.now.room }
         ensures reads { ReadsTemplate (self.now.room - 1) reader.old reader.new result }
     {
@@ -215,7 +215,7 @@ impl<
         &self,
         reader: &mut TokenReader<'_>,
     ) -> Result<Tall<Items<Listed<Boxed<Expr>>>>, TokenFault>
-        requires knot { Knot self.now.room (E.pre self.now.expr) (E.post self.now.expr) (S.pre self.now.stmts) (S.post self.now.stmts) }
+        requires knot { Knot E.Fn S.Fn self.now }
         requires some { 0 < self.now.room }
         ensures reads { ReadsSubstitutions (self.now.room - 1) reader.old reader.new result }
     {
