@@ -1,40 +1,17 @@
 //! Texts, and what is said of each of them: its functions, sites, requires, notes and flows. The lists
 //! were worked out by hand from the rules in docs/FLOW.md.
-ghost use Rattle.std.specs.Prelude.{◌≡◌, ◌<◌, IfOk};
-ghost use Rattle.js_tree.specs.Spells.{SpellsSome};
-
 use crate::constraints_lines::{first_lines, lines_of};
+use crate::texts::tree_of;
 use flow_rules::constraints;
-use jam_base::{Steps, Text};
-use js_parser::{ParseFault, parse};
 use js_scopes::{bind, functions, sites};
-use js_tree::Tree;
 use std::alloc::Global;
-use std::marker::Brand;
 use std::process::Abort;
-use std::sync::ledger::{Blank, Ledger};
 use std::test::Fail;
-
-fn read_with<L: Ledger>(alloc: Global, text: &Text, blank: Blank) -> Result<Tree, ParseFault>
-    requires name { blank.name ≡ L.name }
-    requires parts { blank.parts ≡ L.parts }
-    requires some { 0 < L.parts }
-    ensures { IfOk result SpellsSome }
-{
-    let mut steps = Steps::<L>::new(blank);
-    parse(alloc, text.as_str(), &mut steps)
-}
-
-fn read(alloc: Global, text: &str) -> Result<Tree, ParseFault>
-    ensures { IfOk result SpellsSome }
-{
-    read_with::<Brand>(alloc, &Text::of(alloc, text)?, Blank::new(1))
-}
 
 /// Compares what is said of a text with these lines, one for each list that isn't empty; its functions
 /// and sites are also asked for alone.
 pub(crate) fn compare(rt: &impl Abort, alloc: Global, text: &str, lines: &str) -> Result<(), Fail> {
-    let tree = read(alloc, text)?;
+    let tree = tree_of(alloc, text)?;
     let bindings = bind(alloc, &tree)?;
     let made = constraints(alloc, &tree, &bindings)?;
     assert_eq!(rt; lines_of(alloc, &made)?.as_str(), lines, "{text}");
@@ -52,7 +29,7 @@ fn many_functions_have_their_sites_and_names(rt: HostRuntime) -> Result<(), Fail
     for i in 0..150 {
         write!(text, "function f{i}() {{ }}\nf{i}();\n")?;
     }
-    let tree = read(alloc, text.as_str())?;
+    let tree = tree_of(alloc, text.as_str())?;
     let bindings = bind(alloc, &tree)?;
     let made = constraints(alloc, &tree, &bindings)?;
     assert_eq!(rt; made.functions().len(), 151);

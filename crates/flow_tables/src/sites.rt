@@ -28,14 +28,8 @@ fn sites_of_calls(rt: HostRuntime) -> Result<(), Fail> {
         ("a.push(b);", "6.0 0/1, "),
         ("a().b(c)(d);", "1.0 0/0, 5.0 0/1, 8.0 0/1, "),
         ("f(g(h()));", "1.0 0/1, 3.0 0/1, 5.0 0/0, "),
-        (
-            "function f() { g(); } h();",
-            "16.0 1/0, 23.0 0/0, ",
-        ),
-        (
-            "f(function () { g(); });",
-            "1.0 0/1, 17.0 1/0, ",
-        ),
+        ("function f() { g(); } h();", "16.0 1/0, 23.0 0/0, "),
+        ("f(function () { g(); });", "1.0 0/1, 17.0 1/0, "),
     ] {
         let tree = tree_of(alloc, text)?;
         let line = sites_line(alloc, &sites(alloc, &tree)?)?;
@@ -90,10 +84,7 @@ fn requires_are_no_sites(rt: HostRuntime) -> Result<(), Fail> {
         ("require(require(\"x\"));", "7.0 0/1, "),
         ("var require; require(\"x\");", ""),
         ("function require() { } require(\"x\");", "30.0 0/1, "),
-        (
-            "function f(require) { require(\"x\"); }",
-            "29.0 1/1, ",
-        ),
+        ("function f(require) { require(\"x\"); }", "29.0 1/1, "),
     ] {
         let tree = tree_of(alloc, text)?;
         let line = sites_line(alloc, &sites(alloc, &tree)?)?;

@@ -1,5 +1,6 @@
 //! The trees of texts, and lists in one line.
-ghost use Rattle.std.specs.Prelude.{◌≡◌, ◌<◌};
+ghost use Rattle.std.specs.Prelude.{◌≡◌, ◌<◌, IfOk};
+ghost use Rattle.js_tree.specs.Spells.{SpellsSome};
 
 use flow_rules::{Constraints, NoteKind, Vertex, constraints};
 use jam_base::{List, OutOfMemory, Steps, Text};
@@ -14,13 +15,16 @@ fn read_with<L: Ledger>(alloc: Global, text: &Text, blank: Blank) -> Result<Tree
     requires name { blank.name ≡ L.name }
     requires parts { blank.parts ≡ L.parts }
     requires some { 0 < L.parts }
+    ensures { IfOk result SpellsSome }
 {
     let mut steps = Steps::<L>::new(blank);
     parse(alloc, text.as_str(), &mut steps)
 }
 
 // The tree of the text.
-pub(crate) fn tree_of(alloc: Global, text: &str) -> Result<Tree, ParseFault> {
+pub(crate) fn tree_of(alloc: Global, text: &str) -> Result<Tree, ParseFault>
+    ensures { IfOk result SpellsSome }
+{
     let Ok(text) = Text::of(alloc, text) else {
         return Err(ParseFault::OutOfMemory);
     };
@@ -34,7 +38,12 @@ pub(crate) fn functions_line(
 ) -> Result<String, OutOfMemory> {
     let mut line = String::new(alloc);
     for function in functions.as_slice() {
-        let item = format!(in alloc; "{}/{}@{} ", function.name.as_str(), function.params, function.start)?;
+        let item = format!(in alloc;
+            "{}/{}@{} ",
+            function.name.as_str(),
+            function.params,
+            function.start
+        )?;
         line.push_str(item.as_str())?;
     }
     Ok(line)
@@ -44,7 +53,10 @@ pub(crate) fn functions_line(
 pub(crate) fn sites_line(alloc: Global, sites: &List<SiteInfo>) -> Result<String, OutOfMemory> {
     let mut line = String::new(alloc);
     for site in sites.as_slice() {
-        let item = format!(in alloc; "{}.{} {}/{}, ", site.offset, site.part, site.holder, site.args)?;
+        let item = format!(in alloc;
+            "{}.{} {}/{}, ",
+            site.offset, site.part, site.holder, site.args
+        )?;
         line.push_str(item.as_str())?;
     }
     Ok(line)
@@ -120,7 +132,12 @@ fn push_vertex(alloc: Global, vertex: &Vertex, line: &mut String) -> Result<(), 
 pub(crate) fn notes_line(alloc: Global, made: &Constraints) -> Result<String, OutOfMemory> {
     let mut line = String::new(alloc);
     for found in made.requires_() {
-        let item = format!(in alloc; "{} {} {}, ", found.offset, found.spec.as_str(), found.holder)?;
+        let item = format!(in alloc;
+            "{} {} {}, ",
+            found.offset,
+            found.spec.as_str(),
+            found.holder
+        )?;
         line.push_str(item.as_str())?;
     }
     for note in made.notes() {

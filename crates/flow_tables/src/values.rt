@@ -49,7 +49,10 @@ fn members(rt: HostRuntime) -> Result<(), Fail> {
         ("a = exports.b;", "P:b>G:a "),
         ("module.x = a;", "G:a>P:x "),
         ("module[exports] = a;", "G:a>E "),
-        ("function f(module) { module.exports = a; }", "G:a>P:exports p1.0>v1 f1>v0 "),
+        (
+            "function f(module) { module.exports = a; }",
+            "G:a>P:exports p1.0>v1 f1>v0 ",
+        ),
     ] {
         let line = flows_line(alloc, &constraints_of(alloc, text)?)?;
         assert!(rt; line.as_str() == want, "{text}: {}", line.as_str());
@@ -110,7 +113,10 @@ fn what_joins_values(rt: HostRuntime) -> Result<(), Fail> {
         ("a = b || c || d;", "G:b>e0 G:c>e0 G:d>e0 e0>G:a "),
         ("a || a;", "G:a>e0 "),
         ("a ? 1 : 2;", ""),
-        ("a = (b || c) ? d : e || f;", "G:b>e1 G:c>e1 G:d>e0 G:e>e2 G:f>e2 e0>G:a e2>e0 "),
+        (
+            "a = (b || c) ? d : e || f;",
+            "G:b>e1 G:c>e1 G:d>e0 G:e>e2 G:f>e2 e0>G:a e2>e0 ",
+        ),
         ("a = b || c ? d : e;", "G:b>e1 G:c>e1 G:d>e0 G:e>e0 e0>G:a "),
         ("a = b && c || d;", "G:c>e0 G:d>e0 e0>G:a "),
         ("a || b; c || d;", "G:a>e0 G:b>e0 G:c>e1 G:d>e1 "),
@@ -132,14 +138,26 @@ fn functions_and_what_they_return(rt: HostRuntime) -> Result<(), Fail> {
         ("function exports() { }", "f1>v0 "),
         ("function f(a, b) { }", "p1.0>v1 p1.1>v2 f1>v0 "),
         ("(function (a) { arguments; });", "p1.0>E p1.0>v0 rest1>E "),
-        ("function f(a) { arguments = 1; }", "p1.0>E p1.0>v1 rest1>E f1>v0 "),
-        ("function f(a) { function g() { arguments; } }", "p1.0>v1 rest2>E f1>v0 f2>v2 "),
-        ("function f(a) { var arguments; arguments; }", "p1.0>v1 f1>v0 "),
+        (
+            "function f(a) { arguments = 1; }",
+            "p1.0>E p1.0>v1 rest1>E f1>v0 ",
+        ),
+        (
+            "function f(a) { function g() { arguments; } }",
+            "p1.0>v1 rest2>E f1>v0 f2>v2 ",
+        ),
+        (
+            "function f(a) { var arguments; arguments; }",
+            "p1.0>v1 f1>v0 ",
+        ),
         ("function f(a) { return a; }", "p1.0>v1 f1>v0 v1>ret1 "),
         ("return a;", "G:a>ret0 "),
         ("return;", ""),
         ("return 1;", ""),
-        ("function f() { return function () { return b; }; }", "G:b>ret2 f1>v0 f2>ret1 "),
+        (
+            "function f() { return function () { return b; }; }",
+            "G:b>ret2 f1>v0 f2>ret1 ",
+        ),
     ] {
         let line = flows_line(alloc, &constraints_of(alloc, text)?)?;
         assert!(rt; line.as_str() == want, "{text}: {}", line.as_str());

@@ -1,16 +1,12 @@
 -- Nodes that are put together: what is seen of them, and their lines.
-use Rattle.std.proofs.Common.{◌≡◌, ℕ, ◌+◌, Bool, true, List, ◌∷◌, sym, ap, ◌∙◌, subst}
-use Rattle.js_tree.specs.declared.token.Token.{Token}
-use Rattle.js_tree.specs.declared.token_kind.TokenKind.{TokenKind}
+use Rattle.std.proofs.Common.{◌≡◌, ℕ, ◌+◌, Bool, true, List, sym, ap, ◌∙◌, subst}
 use Rattle.js_tree.specs.declared.tree.Expr.{Expr, out-Expr, roll-Expr, out-roll-Expr}
 use Rattle.js_tree.specs.Folds.{ExprLayer}
-use Rattle.js_tree.specs.Lexical.{Next}
 use Rattle.js_tree.specs.Lexing.{Place}
-use Rattle.js_tree.specs.Pieces.{Piece, Tok, kind}
+use Rattle.js_tree.specs.Pieces.{Piece}
 use Rattle.js_tree.specs.Spelling.Expressions.{expr_musts, expr_row, expr_rank, expr_sound, expr_target}
 use Rattle.js_tree.specs.Spelling.Nodes.{Seen, musts, highest_of}
 use Rattle.js_tree.specs.TokenKinds.{is}
-use Rattle.js_tree.proofs.KindLemmas.{is_itself}
 use Rattle.js_tree.proofs.SpellingLemmas.{at_expr, expr_layer, expr_line_at, seen_lines}
 use Rattle.js_tokens.specs.Pieces.{Reads, Read}
 use Rattle.js_parser.specs.Nodes.{IsSeen, expr_line}

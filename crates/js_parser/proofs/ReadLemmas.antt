@@ -1,9 +1,9 @@
 -- What is said of a call that reads, at each of its exits.
-use Rattle.std.proofs.Common.{◌≡◌, ℕ, ◌<◌, ◌≤◌, List, length, Result, Ok, Err, sym, subst}
+use Rattle.std.proofs.Common.{◌≡◌, ℕ, List, Result, Ok, Err, sym, subst}
 use Rattle.std.specs.Result.{IsErrAnd}
 use Rattle.js_tree.specs.Lexing.{Place}
 use Rattle.js_tree.specs.Pieces.{Piece, Onto}
-use Rattle.js_tokens.specs.Pieces.{Reads, Read, Gives, Passes, Refuses}
+use Rattle.js_tokens.specs.Pieces.{Reads, Gives, Passes, Refuses}
 use Rattle.js_tokens.specs.declared.fault.TokenFault.{TokenFault}
 use Rattle.js_tokens.specs.declared.fault.TokenFault.TheVariants as fault
 use Rattle.js_parser.proofs.PlaceLemmas.{moved}

@@ -1,5 +1,5 @@
 -- A slot as its parts, a slot made of parts, and the slots behind the first one.
-use Rattle.std.proofs.Common.{◌≡◌, ℕ, ◌+◌, ◌-◌, ◌≤◌, ◌<◌, max, Bool, true, false, ◌&&◌, List, [], ◌∷◌, Option, Some, None, is_some, not, refl, sym, ap, ◌∙◌, subst, arith, true≢false}
+use Rattle.std.proofs.Common.{◌≡◌, ℕ, ◌-◌, ◌≤◌, max, Bool, true, false, ◌&&◌, List, [], ◌∷◌, Option, Some, None, is_some, not, refl, sym, ap, ◌∙◌, subst, arith, true≢false}
 use Rattle.std.proofs.lemmas.Bool.{and_parts}
 use Rattle.std.specs.List.{list_all}
 use Rattle.std.specs.Prelude.{nat_le}
@@ -18,7 +18,7 @@ use Rattle.js_tree.specs.Lexing.{Place}
 use Rattle.js_tree.specs.Pieces.{Piece, Tok}
 use Rattle.js_tree.specs.Spelling.{expr, pattern, slot, tallest_of}
 use Rattle.js_tree.specs.Spelling.Functions.{parameter_fits}
-use Rattle.js_tree.specs.Spelling.Nodes.{Seen, ASSIGN, passes, stands}
+use Rattle.js_tree.specs.Spelling.Nodes.{Seen, ASSIGN, stands}
 use Rattle.js_tree.specs.Spelling.Patterns.{DECLARED, pattern_step, slot_row, slot_step}
 use Rattle.js_tree.specs.TokenKinds.{is}
 use Rattle.js_tree.proofs.Folds.{map_init, map_maybe}

@@ -1,22 +1,21 @@
 -- What is told of the next token.
-use Rattle.std.proofs.Common.{◌≡◌, ◌⊎◌, ⊎_elim, ℕ, ◌+◌, ◌<◌, ◌≤◌, ◌==◌, Bool, true, false, ◌&&◌, ◌||◌, not, sym, ap, ◌∙◌, subst, arith, true≢false, refl, if◌then◌else◌, ◌-◌, List, ◌∷◌, Result, Ok, Err, IfOk}
-use Rattle.std.specs.Prelude.{nat_lt, nat_le}
+use Rattle.std.proofs.Common.{◌≡◌, ◌⊎◌, ⊎_elim, ℕ, ◌+◌, ◌<◌, ◌≤◌, ◌==◌, Bool, true, false, ◌&&◌, ◌||◌, not, sym, ap, ◌∙◌, subst, arith, true≢false, refl, if◌then◌else◌, ◌-◌, List, Result, Ok, Err, IfOk}
+use Rattle.std.specs.Prelude.{nat_le}
 use Rattle.js_tree.specs.declared.token.Token.{Token}
 use Rattle.js_tree.specs.declared.token_kind.TokenKind.{TokenKind}
 use Rattle.js_tree.specs.declared.token_kind.TokenKind.TheVariants as kinds
 use Rattle.std.proofs.lemmas.Bool.Decides.{nat_tests}
 use Rattle.js_tree.specs.Lexical.{Next}
 use Rattle.js_tree.specs.Lexing.{Place}
-use Rattle.js_tree.specs.Operators.{is_assignment, is_binary, level_of}
-use Rattle.js_tree.specs.Pieces.{Piece, Tok, one, kind}
+use Rattle.js_tree.specs.Operators.{is_binary, level_of}
+use Rattle.js_tree.specs.Pieces.{one, kind}
 use Rattle.js_tree.specs.Spelling.Nodes.{BINARY, POWER}
 use Rattle.js_tree.specs.TokenKinds.{code, is}
 use Rattle.js_tree.specs.contracts.token_kind.TokenKind.{the_type}
 use denote.Enum.Declared.{tag_of}
 use Rattle.js_tree.proofs.KindLemmas.{is_same, every}
-use Rattle.js_tokens.proofs.AheadLemmas.{one_next}
 use Rattle.js_tokens.specs.Ahead.{reads, IsTwin, IsNextKind, IsNextLine}
-use Rattle.js_tokens.specs.Pieces.{OnlyRead, Any, Anywhere, Reads, Gives}
+use Rattle.js_tokens.specs.Pieces.{OnlyRead, Any, Anywhere}
 use Rattle.js_tokens.specs.declared.fault.TokenFault.{TokenFault}
 use Rattle.js_tokens.specs.declared.goal.Goal.TheVariants as goal
 use Rattle.js_parser.specs.Following.{strength, IsStrength, separates}

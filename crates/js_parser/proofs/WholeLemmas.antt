@@ -1,5 +1,5 @@
 -- A tree that spells the text, and its pieces read from the start.
-use Rattle.std.proofs.Common.{◌≡◌, ℕ, ◌≤◌, ◌<◌, arith, Result, Ok, Err, IfErr, List, [], ◌∷◌, length, sym, ap, subst, refl}
+use Rattle.std.proofs.Common.{◌≡◌, ℕ, ◌≤◌, ◌<◌, arith, Result, Ok, Err, List, [], ◌∷◌, length, sym, ap, subst, refl}
 use Rattle.std.specs.Str.{IsUtf8}
 use Rattle.js_tree.specs.Lexical.{LexesTo, IsTrivia}
 use Rattle.js_tree.specs.Lexing.{Place, start_of}

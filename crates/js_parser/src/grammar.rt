@@ -24,8 +24,7 @@ pub struct Grammar<E, S> {
 impl<
     E: Fn(Global, &mut TokenReader<'_>, u32, u8) -> Result<Value, TokenFault>,
     S: Fn(Global, &mut TokenReader<'_>, u32) -> Result<Tall<Items<Stmt>>, TokenFault>,
-> Grammar<E, S>
-{
+> Grammar<E, S> {
     /// An expression of the level in a node.
     pub fn inner(&self, reader: &mut TokenReader<'_>, level: u8) -> Result<Value, TokenFault>
         requires knot { Knot E.Fn S.Fn self.now }
@@ -37,10 +36,7 @@ impl<
     }
 
     /// The statements in a node.
-    pub fn inner_stmts(
-        &self,
-        reader: &mut TokenReader<'_>,
-    ) -> Result<Tall<Items<Stmt>>, TokenFault>
+    pub fn inner_stmts(&self, reader: &mut TokenReader<'_>) -> Result<Tall<Items<Stmt>>, TokenFault>
         requires knot { Knot E.Fn S.Fn self.now }
         requires some { 0 < self.now.room }
         ensures reads { ReadsStmts (self.now.room - 1) reader.old reader.new result }

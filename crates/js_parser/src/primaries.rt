@@ -19,8 +19,7 @@ use std::alloc::Global;
 impl<
     E: Fn(Global, &mut TokenReader<'_>, u32, u8) -> Result<Value, TokenFault>,
     S: Fn(Global, &mut TokenReader<'_>, u32) -> Result<Tall<Items<Stmt>>, TokenFault>,
-> Grammar<E, S>
-{
+> Grammar<E, S> {
     /// A primary.
     pub fn primary(&self, reader: &mut TokenReader<'_>) -> Result<Value, TokenFault>
         requires knot { Knot E.Fn S.Fn self.now }
@@ -56,7 +55,15 @@ impl<
         ensures reads { ReadsExpr 18 self.now.room reader.old reader.new result }
     {
         let word = mark(self.alloc, reader, TokenKind::This)?;
-        value(self.alloc, reader, self.room, Expr::This(word), 0, 20, false)
+        value(
+            self.alloc,
+            reader,
+            self.room,
+            Expr::This(word),
+            0,
+            20,
+            false,
+        )
     }
 
     // A literal; a `/` begins a regular expression here.
@@ -67,7 +74,15 @@ impl<
         ensures reads { ReadsExpr 18 self.now.room reader.old reader.new result }
     {
         let token = reader.take(self.alloc, Goal::Operand)?;
-        value(self.alloc, reader, self.room, Expr::Literal(token), 0, 20, false)
+        value(
+            self.alloc,
+            reader,
+            self.room,
+            Expr::Literal(token),
+            0,
+            20,
+            false,
+        )
     }
 
     // An expression in round brackets.
@@ -97,7 +112,15 @@ impl<
         ensures reads { ReadsExpr 18 self.now.room reader.old reader.new result }
     {
         let Tall { node, height } = self.template(reader)?;
-        value(self.alloc, reader, self.room, Expr::Template(node), height, 20, false)
+        value(
+            self.alloc,
+            reader,
+            self.room,
+            Expr::Template(node),
+            height,
+            20,
+            false,
+        )
     }
 
     // A function as a value.
@@ -109,6 +132,14 @@ impl<
     {
         let Tall { node, height } = self.function(reader)?;
         let function = Boxed::new(self.alloc, node)?;
-        value(self.alloc, reader, self.room, Expr::Fun { function }, height, 20, false)
+        value(
+            self.alloc,
+            reader,
+            self.room,
+            Expr::Fun { function },
+            height,
+            20,
+            false,
+        )
     }
 }

@@ -1,14 +1,10 @@
-use Rattle.std.proofs.Common.{◌≡◌, ◌<◌, ◌≤◌, ◌+◌, ◌-◌, ℕ, max, refl, sym, ap, ◌∙◌, arith, List, ◌∷◌, Option, Some, None}
-use Rattle.js_tree.specs.Pieces.{Piece}
-use Rattle.js_tree.specs.declared.lists.Element.{Element}
+use Rattle.std.proofs.Common.{◌≡◌, ◌-◌, ℕ, sym, ◌∙◌, arith, List, None}
 use Rattle.js_tree.specs.declared.token_kind.TokenKind.TheVariants as kinds
-use Rattle.js_tree.specs.declared.tree.Slot.{Slot}
 use Rattle.js_parser.proofs.BeginLemmas.{with_mark}
 use Rattle.js_parser.proofs.FunctionLemmas.{parameter_view}
 use Rattle.js_parser.proofs.PlaceLemmas.{passes_none}
 use Rattle.js_parser.proofs.ReadLemmas.{want, failed, refused_here}
 use Rattle.js_parser.proofs.SlotLemmas.{parameter_fit, slot_made, slot_of, slot_tall}
-use Rattle.js_parser.specs.declared.tall.Tall.{Tall}
 use Rattle.js_parser.proofs.functions.parameter.Goals as goal
 
 pub returns-then-room-eq0 : goal.returns-then-room-eq0

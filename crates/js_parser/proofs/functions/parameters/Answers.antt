@@ -1,12 +1,11 @@
 use Rattle.js_tokens.specs.declared.fault.TokenFault.TheVariants as fault
-use Rattle.std.proofs.Common.{◌≡◌, ◌<◌, ◌≤◌, ◌+◌, ◌-◌, ℕ, max, refl, sym, ap, ◌∙◌, subst, arith, List, [], ◌∷◌, ◌++◌, Option, Some, None, is_some, false, true}
+use Rattle.std.proofs.Common.{◌≡◌, ◌-◌, ℕ, max, refl, sym, ap, ◌∙◌, subst, arith, List, [], None, false, true}
 use Rattle.js_tree.specs.Lexing.{Place}
-use Rattle.js_tree.specs.Pieces.{Piece, Onto}
+use Rattle.js_tree.specs.Pieces.{Onto}
 use Rattle.js_tree.specs.TokenKinds.{is}
 use Rattle.js_tree.specs.declared.lists.Bracket.{Bracket}
 use Rattle.js_tree.specs.declared.lists.Element.{Element}
 use Rattle.js_tree.specs.declared.lists.Listed.{Listed}
-use Rattle.js_tree.specs.declared.token.Token.{Token}
 use Rattle.js_tree.specs.declared.token_kind.TokenKind.{TokenKind}
 use Rattle.js_tree.specs.declared.token_kind.TokenKind.TheVariants as kinds
 use Rattle.js_tree.specs.declared.tree.Slot.{Slot}
@@ -16,7 +15,6 @@ use Rattle.js_parser.proofs.BracketLemmas.{Goes, Within, both_not, closing, comm
 use Rattle.js_parser.proofs.FunctionLemmas.{IsParameter, good_parameters, no_parameter, parameter_at, parameter_height, parameter_line, parameters_good, parameters_tall, tall_parameter}
 use Rattle.js_parser.proofs.PlaceLemmas.{passes_none, passes_on}
 use Rattle.js_parser.proofs.ReadLemmas.{want, failed}
-use Rattle.js_parser.specs.Nodes.{ParametersAt}
 use Rattle.js_parser.specs.declared.tall.Tall.{Tall}
 use Rattle.js_parser.proofs.functions.parameters.Goals as goal
 

@@ -1,4 +1,4 @@
-use Rattle.std.proofs.Common.{◌≡◌, sym, ◌∙◌, true, false, Ok, Err, IfOk, Result}
+use Rattle.std.proofs.Common.{sym, ◌∙◌, true, false}
 use Rattle.js_tree.specs.Pieces.{kind}
 use Rattle.js_tree.specs.TokenKinds.{is}
 use Rattle.js_parser.proofs.TokenLemmas.{taken_ok, only_plain, not_told}

@@ -1,5 +1,4 @@
-use Rattle.std.proofs.Common.{◌≡◌, ◌≤◌, ℕ, arith, sym, subst, refl, List, Result, Ok, Err, true≢false}
-use Rattle.std.specs.Result.{IsErrAnd}
+use Rattle.std.proofs.Common.{◌≤◌, ℕ, arith, sym, subst, refl, List, Ok, Err, true≢false}
 use Rattle.js_tree.specs.Lexical.{IsTrivia}
 use Rattle.js_tree.specs.Lexing.{Place}
 use Rattle.js_tree.specs.Spelling.{stmts_height}

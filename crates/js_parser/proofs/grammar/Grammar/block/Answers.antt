@@ -1,5 +1,5 @@
-use Rattle.std.proofs.Common.{◌≡◌, ◌<◌, ◌≤◌, ◌-◌, ℕ, refl, arith, List}
-use Rattle.js_tree.specs.Pieces.{Piece, Onto, one}
+use Rattle.std.proofs.Common.{◌-◌, ℕ, refl, arith, List}
+use Rattle.js_tree.specs.Pieces.{Onto, one}
 use Rattle.js_tree.specs.Spelling.{stmts}
 use Rattle.js_tree.specs.TokenKinds.{is}
 use Rattle.js_tree.specs.declared.lists.Block.{Block}

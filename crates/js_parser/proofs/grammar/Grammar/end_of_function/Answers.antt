@@ -1,4 +1,4 @@
-use Rattle.std.proofs.Common.{◌≡◌, ◌<◌, ◌≤◌, ◌+◌, ◌-◌, ℕ, max, refl, sym, ap, ◌∙◌, arith, List, ◌∷◌, Option, Some}
+use Rattle.std.proofs.Common.{◌+◌, ◌-◌, ℕ, refl, sym, ◌∙◌, arith, List, Option, Some}
 use Rattle.js_tree.specs.Pieces.{Piece, Onto, one}
 use Rattle.js_tree.specs.TokenKinds.{is}
 use Rattle.js_tree.specs.declared.token_kind.TokenKind.TheVariants as kinds

@@ -1,10 +1,8 @@
-use Rattle.std.proofs.Common.{◌≡◌, ◌<◌, ◌≤◌, ◌-◌, ℕ, max, refl, sym, ap, ◌∙◌, subst, arith, List, [], ◌++◌, ◌∷◌}
-use Rattle.js_tree.specs.Pieces.{Piece}
+use Rattle.std.proofs.Common.{◌-◌, ℕ, max, sym, ap, ◌∙◌, subst, arith, List, []}
 use Rattle.js_tree.specs.Spelling.{slot}
 use Rattle.js_tree.specs.Spelling.Nodes.{ASSIGN}
 use Rattle.js_tree.specs.declared.lists.Further.{Further}
 use Rattle.js_tree.specs.declared.tree.Slot.{Slot}
-use Rattle.js_tokens.specs.Pieces.{Gives}
 use Rattle.js_parser.proofs.ListLemmas.{Progress, begun, one_more, finished, refused, tallest-push}
 use Rattle.js_parser.proofs.ReadLemmas.{want, gives, failed_maybe}
 use Rattle.js_parser.proofs.SlotLemmas.{IsFurtherSlot, further_at, further_tall, no_slot, slot_stops, slots_at, slots_of, some_slot, tall_further}

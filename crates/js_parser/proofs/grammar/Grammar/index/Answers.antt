@@ -8,7 +8,6 @@ use Rattle.js_tree.specs.declared.lists.Tail.TheVariants as tail
 use Rattle.js_tree.specs.declared.token.Token.{Token}
 use Rattle.js_tree.specs.declared.token_kind.TokenKind.TheVariants as kinds
 use Rattle.js_tree.specs.declared.tree.Expr.{Expr}
-use Rattle.js_tokens.specs.Pieces.{Reads}
 use Rattle.js_parser.proofs.BeginLemmas.{with_mark}
 use Rattle.js_parser.proofs.ExprLemmas.{value_of, value_at}
 use Rattle.js_parser.proofs.ParenLemmas.{stops_mark}

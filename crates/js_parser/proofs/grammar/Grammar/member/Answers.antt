@@ -3,8 +3,6 @@ use Rattle.js_tree.specs.Operators.{is_member_name}
 use Rattle.js_tree.specs.Pieces.{Tok}
 use Rattle.js_tree.specs.declared.lists.Tail.TheVariants as tail
 use Rattle.js_tree.specs.declared.token_kind.TokenKind.TheVariants as kinds
-use Rattle.js_tree.specs.declared.tree.Expr.{Expr}
-use Rattle.js_tokens.specs.Pieces.{Reads}
 use Rattle.js_parser.proofs.BeginLemmas.{with_mark}
 use Rattle.js_parser.proofs.PlaceLemmas.{passes_none, passes_on}
 use Rattle.js_parser.proofs.ReadLemmas.{want, failed}

@@ -1,17 +1,14 @@
-use Rattle.std.proofs.Common.{◌≡◌, ◌<◌, ◌≤◌, ◌+◌, ◌-◌, ℕ, refl, sym, ap, ◌∙◌, arith, List, ◌∷◌, Some}
-use Rattle.js_tree.specs.Pieces.{Piece, Tok, Onto, one}
-use Rattle.js_tree.specs.Spelling.{expr}
+use Rattle.std.proofs.Common.{◌+◌, ◌-◌, ℕ, refl, sym, ◌∙◌, arith, List, Some}
+use Rattle.js_tree.specs.Pieces.{Piece, Onto, one}
 use Rattle.js_tree.specs.TokenKinds.{is}
 use Rattle.js_tree.specs.declared.token_kind.TokenKind.TheVariants as kinds
 use Rattle.js_tree.specs.declared.tree.Stmt.{Stmt}
 use Rattle.js_tree.specs.declared.tree.Stmt.TheVariants as made
-use Rattle.js_tokens.specs.Pieces.{Reads}
 use Rattle.js_parser.proofs.BeginLemmas.{expr_begins, stops_before, with_mark}
 use Rattle.js_parser.proofs.ExprLemmas.{value_of, value_at, rests}
 use Rattle.js_parser.proofs.PlaceLemmas.{passes_none, passes_on}
 use Rattle.js_parser.proofs.ReadLemmas.{want, failed}
 use Rattle.js_parser.proofs.StmtLemmas.{PlainView, stmt_view, plain_next, plain_made, plain_tall}
-use Rattle.js_parser.specs.Following.{Stops}
 use Rattle.js_parser.specs.Nodes.{StmtAt, ValueAt, ValueStops}
 use Rattle.js_parser.specs.declared.kinds.Statement.TheVariants as sorts
 use Rattle.js_parser.specs.declared.tall.Tall.{Tall}

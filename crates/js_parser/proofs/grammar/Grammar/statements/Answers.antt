@@ -1,9 +1,8 @@
-use Rattle.std.proofs.Common.{◌≡◌, ◌<◌, ◌≤◌, ◌-◌, ℕ, max, refl, sym, ap, ◌∙◌, subst, arith, List, [], ◌∷◌, ◌++◌}
-use Rattle.js_tree.specs.Pieces.{Piece}
+use Rattle.std.proofs.Common.{◌-◌, ℕ, max, sym, ap, ◌∙◌, subst, arith, List, []}
 use Rattle.js_tree.specs.Spelling.{stmt, stmts_height}
 use Rattle.js_tree.specs.declared.tree.Stmt.{Stmt}
 use Rattle.js_tree.proofs.SpellingLemmas.{stmt_height_some}
-use Rattle.js_tokens.specs.Pieces.{Anywhere, Gives}
+use Rattle.js_tokens.specs.Pieces.{Anywhere}
 use Rattle.js_parser.proofs.ListLemmas.{Progress, begun, finished, one_more, refused, tallest-push}
 use Rattle.js_parser.proofs.PlaceLemmas.{refuses_on}
 use Rattle.js_parser.proofs.ReadLemmas.{want, gives, failed_maybe}

@@ -1,7 +1,7 @@
-use Rattle.std.proofs.Common.{refl, sym, ap, ◌∙◌, true, false, arith}
+use Rattle.std.proofs.Common.{refl, sym, ap, ◌∙◌, false, arith}
 use Rattle.js_tree.specs.declared.tree.Expr.TheOpen.{Expr-F}
 use Rattle.js_tree.specs.declared.tree.Expr.TheVariants.{rolls-This}
-use Rattle.js_tree.specs.declared.tree.Expr.{roll-Expr, out-roll-Expr}
+use Rattle.js_tree.specs.declared.tree.Expr.{roll-Expr}
 use Rattle.js_tree.specs.declared.token_kind.TokenKind.TheVariants as kinds
 use Rattle.js_parser.proofs.BeginLemmas.{with_mark}
 use Rattle.js_parser.proofs.ExprLemmas.{made, node_of}
@@ -15,9 +15,9 @@ use Rattle.js_parser.proofs.grammar.Grammar.this.Goals as goal
 pub returns-in_err-word : goal.returns-in_err-word
 returns-in_err-word g c = record {
   reads = failed _ _ _ _ _ _ _ _ (passes_none _) c.in_err-word.ensures.moves
-    (λ x rest r at s.
-        let v = of_sort _ x.node rest sorts.This c.requires.told r (high _ x at) in
-        want _ _ _ (c.in_err-word.ensures.only v.0 rest (at_line _ x.node rest (Expr-F.This v.0) v.1 r) tt tt)) c.from_residual.ensures.1;
+      (λ x rest r at s.
+      let v = of_sort _ x.node rest sorts.This c.requires.told r (high _ x at) in
+      want _ _ _ (c.in_err-word.ensures.only v.0 rest (at_line _ x.node rest (Expr-F.This v.0) v.1 r) tt tt)) c.from_residual.ensures.1;
 }
 
 pub value-requires : goal.value-requires
@@ -26,9 +26,9 @@ value-requires g c = record { seen = seen_at (Expr-F.This c.in_ok-word.word) _ (
 pub returns : goal.returns
 returns g c = record {
   reads = made 20 _ 18 _ _ _ _ c.value.ensures.made (omega arith)
-    (read_at (Expr-F.This c.in_ok-word.word) _ (rolls-This c.in_ok-word.word) _ _ (λ rest r. with_mark kinds.This _ _ _ rest c.in_ok-word.ensures.found.0 c.in_ok-word.ensures.found.1 r)) c.in_ok-word.ensures.moves c.in_ok-word.ensures.shorter
-    (λ x rest r at s.
-        let v = of_sort _ x.node rest sorts.This c.requires.told r (high _ x at) in
-        let g0 = c.in_ok-word.ensures.only v.0 rest (at_line _ x.node rest (Expr-F.This v.0) v.1 r) tt tt in
-        (sym (rolls-This c.in_ok-word.word) ∙ ap (λ t. roll-Expr (Expr-F.This t)) g0.0 ∙ node_of x.node (Expr-F.This v.0) v.1, g0.1));
+      (read_at (Expr-F.This c.in_ok-word.word) _ (rolls-This c.in_ok-word.word) _ _ (λ rest r. with_mark kinds.This _ _ _ rest c.in_ok-word.ensures.found.0 c.in_ok-word.ensures.found.1 r)) c.in_ok-word.ensures.moves c.in_ok-word.ensures.shorter
+      (λ x rest r at s.
+      let v = of_sort _ x.node rest sorts.This c.requires.told r (high _ x at) in
+      let g0 = c.in_ok-word.ensures.only v.0 rest (at_line _ x.node rest (Expr-F.This v.0) v.1 r) tt tt in
+      (sym (rolls-This c.in_ok-word.word) ∙ ap (λ t. roll-Expr (Expr-F.This t)) g0.0 ∙ node_of x.node (Expr-F.This v.0) v.1, g0.1));
 }

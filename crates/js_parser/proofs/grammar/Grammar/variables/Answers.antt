@@ -1,4 +1,4 @@
-use Rattle.std.proofs.Common.{◌≡◌, ◌<◌, ◌≤◌, ◌+◌, ◌-◌, ℕ, max, refl, sym, ap, ◌∙◌, arith, List, ◌∷◌, Some}
+use Rattle.std.proofs.Common.{◌≡◌, ◌+◌, ◌-◌, ℕ, refl, sym, ap, ◌∙◌, arith, List, Some}
 use Rattle.js_tree.specs.Pieces.{Piece, Onto, one}
 use Rattle.js_tree.specs.Spelling.{slot}
 use Rattle.js_tree.specs.TokenKinds.{is}

@@ -1,4 +1,4 @@
-use Rattle.flow_tables.proofs.constraints_tests.read.Given as goal
+use Rattle.flow_tables.proofs.texts.tree_of.Given as goal
 
 abbrev pub ghosts-read_with : goal.ghosts-read_with
 ghosts-read_with a = record { name = a.blank.name; parts = a.blank.parts }
