@@ -8,6 +8,7 @@ pub mod HeadLemmas
 pub mod ListLemmas
 pub mod ListedLemmas
 pub mod MadeLemmas
+pub mod NewLemmas
 pub mod OperandLemmas
 pub mod ParenLemmas
 pub mod PlaceLemmas
