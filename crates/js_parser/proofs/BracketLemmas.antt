@@ -1,13 +1,15 @@
 -- How items by commas in brackets are read, item by item.
-use Rattle.std.proofs.Common.{◌≡◌, ℕ, ◌+◌, ◌≤◌, max, Bool, true, false, ◌&&◌, not, List, [], ◌∷◌, ◌++◌, Option, Some, None, is_some, refl, sym, ap, ◌∙◌, subst, arith, append-nil, append_assoc, true≢false}
+use Rattle.std.proofs.Common.{◌≡◌, ℕ, ◌≤◌, max, Bool, true, false, ◌&&◌, not, List, [], ◌∷◌, ◌++◌, Option, Some, None, is_some, refl, sym, ap, ◌∙◌, subst, arith, append-nil, append_assoc, true≢false}
+use Rattle.std.specs.List.{list_all}
 use Rattle.js_tree.specs.declared.lists.Bracket.{Bracket}
+use Rattle.js_tree.specs.declared.lists.Element.{Element}
 use Rattle.js_tree.specs.declared.lists.Listed.{Listed}
 use Rattle.js_tree.specs.declared.token.Token.{Token}
 use Rattle.js_tree.specs.declared.token_kind.TokenKind.TheVariants as kinds
 use Rattle.js_tree.specs.Lexing.{Place}
 use Rattle.js_tree.specs.Pieces.{Piece, Tok, Onto}
 use Rattle.js_tree.specs.Spelling.{tallest_of}
-use Rattle.js_tree.specs.Spelling.Nodes.{pieces, unmarked}
+use Rattle.js_tree.specs.Spelling.Nodes.{all_within, passes, pieces, unmarked}
 use Rattle.js_tree.specs.Spelling.Rows.{bracket_row, each_of, element_row, listed_row, may_mark, maybe}
 use Rattle.js_tree.specs.TokenKinds.{is}
 use Rattle.js_tokens.specs.Pieces.{Reads, Read, Passes}
@@ -62,6 +64,14 @@ puts_height f x (Some mark) front None front' last' puts h =
     omega (arith, e, tallest-push (λ (y : Listed _). f y.item) front (record { item = x; mark = mark }))
 
 -- TESTS
+
+pub both : (a b : Bool) → (a && b) ≡ true → (a ≡ true) × (b ≡ true)
+both true b e = (refl, e)
+both false b e = absurd (true≢false (sym e))
+
+pub joined : (a b : Bool) → a ≡ true → b ≡ true → (a && b) ≡ true
+joined true b e f = f
+joined false b e f = absurd (true≢false (sym e))
 
 pub both_not : (a b : Bool) → (not a && not b) ≡ true → (a ≡ false) × (b ≡ false)
 both_not false false e = (refl, refl)
@@ -226,3 +236,40 @@ module _ {X : Type 0} (item : X → Onto) (P : X → Type 0) (Stops : X → List
       whole None [] e r g = (sym (e ∙ append-nil front), refl, r)
       whole (Some y) [] e r g = absurd (ends refl y (closing close more) r g.end)
       whole l (y ∷ ys) e r g = absurd (ends refl y.item (Tok y.mark (is kinds.Comma) ∷ inside ys l (closing close more)) r g.each.0)
+
+-- WHAT IS ASKED OF ALL
+
+module _ {Y : Type 0} (item : Element Y → Onto) (fits : Element Y → Bool) (height : Element Y → ℕ) (room : ℕ) (Stops : Element Y → List Piece → Type 0) where
+  -- an item passes the test and is no taller than the room
+  abbrev pub Suits : Element Y → Type 0
+  Suits x = (fits x ≡ true) × (height x ≤ room)
+
+  -- what is asked of all items is asked of each
+  pub bracket_good : (b : Bracket Y) (tall : ℕ) → all_within fits b ≡ true → tall ≡ inside_height height b.front b.last → tall ≤ room → Good item Suits Stops b.front b.last
+  unfolding AllOf
+  bracket_good b tall good same low =
+      let s = both _ _ good in
+      record { each = each b.front s.0 (omega (arith, same, low)); end = end b.last s.1 (omega (arith, same, low)) }
+    where
+      each : (xs : List (Listed (Element Y))) → list_all (λ x. fits x.item) xs ≡ true → tallest_of (λ x. height x.item) xs ≤ room → AllOf (λ (x : Listed (Element Y)). Suits x.item) xs
+      each [] e h = tt
+      each (x ∷ xs) e h = let s = both _ _ e in ((s.0, omega (arith, h)), each xs s.1 (omega (arith, h)))
+
+      end : (o : Option (Element Y)) → passes fits o ≡ true → last_height height o ≤ room → GoodLast item Suits Stops o
+      end None e h = tt
+      end (Some x) e h = (e, h)
+
+  pub good_bracket : (b : Bracket Y) → Good item Suits Stops b.front b.last → (all_within fits b ≡ true) × (inside_height height b.front b.last ≤ room)
+  unfolding AllOf
+  good_bracket b good =
+      let e = each b.front good.each in
+      let l = end b.last good.end in
+      (joined _ _ e.0 l.0, omega (arith, e.1, l.1))
+    where
+      each : (xs : List (Listed (Element Y))) → AllOf (λ (x : Listed (Element Y)). Suits x.item) xs → (list_all (λ x. fits x.item) xs ≡ true) × (tallest_of (λ x. height x.item) xs ≤ room)
+      each [] a = (refl, omega arith)
+      each (x ∷ xs) a = let m = each xs a.1 in (joined _ _ a.0.0 m.0, omega (arith, a.0.1, m.1))
+
+      end : (o : Option (Element Y)) → GoodLast item Suits Stops o → (passes fits o ≡ true) × (last_height height o ≤ room)
+      end None a = (refl, omega arith)
+      end (Some x) a = (a.0, a.1)

@@ -1,5 +1,5 @@
 -- A function and its parameters as their parts, and a function made of parts.
-use Rattle.std.proofs.Common.{◌≡◌, ℕ, ◌+◌, ◌≤◌, max, map, Bool, true, false, ◌&&◌, not, List, [], ◌∷◌, Option, Some, None, is_some, refl, sym, ap, ◌∙◌, subst, arith, true≢false}
+use Rattle.std.proofs.Common.{◌≡◌, ℕ, ◌≤◌, max, map, Bool, true, false, ◌&&◌, not, List, [], ◌∷◌, Option, Some, None, is_some, refl, sym, ap, ◌∙◌, subst, arith, true≢false}
 use Rattle.std.specs.List.{list_all}
 use Rattle.js_tree.specs.declared.lists.Block.{Block}
 use Rattle.js_tree.specs.declared.lists.Bracket.{Bracket}
@@ -18,7 +18,7 @@ use Rattle.js_tree.specs.declared.tree.Stmt.{Stmt}
 use Rattle.js_tree.specs.Folds.{FunctionLayer}
 use Rattle.js_tree.specs.Lexing.{Place}
 use Rattle.js_tree.specs.Pieces.{Piece, Tok, Must}
-use Rattle.js_tree.specs.Spelling.{expr, function, pattern, slot, stmt, stmts_height, tallest_of}
+use Rattle.js_tree.specs.Spelling.{expr, function, pattern, slot, stmt, stmts_height}
 use Rattle.js_tree.specs.Spelling.Functions.{function_musts, function_name, function_row, parameter_fits}
 use Rattle.js_tree.specs.Spelling.Patterns.{DECLARED}
 use Rattle.js_tree.specs.Spelling.Nodes.{Seen, all_within, musts, passes, pieces, unmarked, stands}
@@ -31,8 +31,7 @@ use Rattle.js_tree.proofs.SpellingLemmas.{at-Keyword, function_layer, function_l
 use Rattle.js_tokens.specs.Ahead.{IsNextKind}
 use Rattle.js_tokens.specs.Pieces.{Reads}
 use Rattle.js_parser.proofs.BeginLemmas.{other_told}
-use Rattle.js_parser.proofs.BracketLemmas.{Good, GoodLast, bracket_tall, inside_height, last_height}
-use Rattle.js_parser.proofs.ListLemmas.{AllOf}
+use Rattle.js_parser.proofs.BracketLemmas.{Good, bracket_good, bracket_tall, good_bracket, inside_height}
 use Rattle.js_parser.proofs.SlotLemmas.{slot_of, slot_view}
 use Rattle.js_parser.specs.Nodes.{ParameterAt, block_line, init_height, init_line, parameters_line, slot_line}
 use Rattle.js_parser.specs.declared.tall.Tall.{Tall}
@@ -101,46 +100,15 @@ parameter_at room x at = record { fits = at.0; height = refl; low = at.1 }
 abbrev pub parameters_height : Bracket Slot → ℕ
 parameters_height b = inside_height parameter_height b.front b.last
 
-both : (a b : Bool) → (a && b) ≡ true → (a ≡ true) × (b ≡ true)
-both true b e = (refl, e)
-both false b e = absurd (true≢false (sym e))
-
-joined : (a b : Bool) → a ≡ true → b ≡ true → (a && b) ≡ true
-joined true b e f = f
-joined false b e f = absurd (true≢false (sym e))
-
 -- what is asked of all parameters is asked of each
 abbrev AreGood : ℕ → List (Listed (Element Slot)) → Option (Element Slot) → Type 0
 AreGood room = Good parameter_line (IsParameter room) (λ x rest. Unit {0})
 
 pub parameters_good : (room : ℕ) (b : Bracket Slot) (height : ℕ) → all_within fits b ≡ true → height ≡ parameters_height b → height ≤ room → AreGood room b.front b.last
-unfolding AllOf
-parameters_good room b height good is low =
-    let s = both _ _ good in
-    record { each = each b.front s.0 (omega (arith, is, low)); end = end b.last s.1 (omega (arith, is, low)) }
-  where
-    each : (xs : List (Listed (Element Slot))) → list_all (λ x. fits x.item) xs ≡ true → tallest_of (λ x. parameter_height x.item) xs ≤ room → AllOf (λ (x : Listed (Element Slot)). IsParameter room x.item) xs
-    each [] e h = tt
-    each (x ∷ xs) e h = let s = both _ _ e in ((s.0, omega (arith, h)), each xs s.1 (omega (arith, h)))
-
-    end : (o : Option (Element Slot)) → passes fits o ≡ true → last_height parameter_height o ≤ room → GoodLast parameter_line (IsParameter room) (λ x rest. Unit {0}) o
-    end None e h = tt
-    end (Some x) e h = (e, h)
+parameters_good room = bracket_good parameter_line fits parameter_height room (λ x rest. Unit {0})
 
 pub good_parameters : (room : ℕ) (b : Bracket Slot) → AreGood room b.front b.last → (all_within fits b ≡ true) × (parameters_height b ≤ room)
-unfolding AllOf
-good_parameters room b good =
-    let e = each b.front good.each in
-    let l = end b.last good.end in
-    (joined _ _ e.0 l.0, omega (arith, e.1, l.1))
-  where
-    each : (xs : List (Listed (Element Slot))) → AllOf (λ (x : Listed (Element Slot)). IsParameter room x.item) xs → (list_all (λ x. fits x.item) xs ≡ true) × (tallest_of (λ x. parameter_height x.item) xs ≤ room)
-    each [] a = (refl, omega arith)
-    each (x ∷ xs) a = let m = each xs a.1 in (joined _ _ a.0.0 m.0, omega (arith, a.0.1, m.1))
-
-    end : (o : Option (Element Slot)) → GoodLast parameter_line (IsParameter room) (λ x rest. Unit {0}) o → (passes fits o ≡ true) × (last_height parameter_height o ≤ room)
-    end None a = (refl, omega arith)
-    end (Some x) a = (a.0, a.1)
+good_parameters room = good_bracket parameter_line fits parameter_height room (λ x rest. Unit {0})
 
 -- the height of parameters as the rows have it
 pub parameters_tall : (b : Bracket Slot) → bracket_row unmarked (λ (s : Slot) h. max (slot s).height h) b 0 ≡ parameters_height b

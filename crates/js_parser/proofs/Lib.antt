@@ -1,3 +1,4 @@
+pub mod ArgumentLemmas
 pub mod BeginLemmas
 pub mod BoundaryLemmas
 pub mod BracketLemmas
@@ -16,5 +17,6 @@ pub mod ReadLemmas
 pub mod SlotLemmas
 pub mod StmtLemmas
 pub mod TailLemmas
+pub mod TemplateLemmas
 pub mod TokenLemmas
 pub mod WholeLemmas

@@ -60,14 +60,20 @@ module _ {X : Type 0} (line : X → Onto) (P : X → Type 0) (Closes : List Piec
           let g = only y (each_of line ys rest) r h.0 (follow y ys rest h.1 c) in
           (ys, e ∙ ap (λ (z : X). body ++ z ∷ ys) (sym g.0) ∙ sym (append_assoc body (x ∷ []) ys), g.1, h.1)
 
+  pub finished_by : (p m : Place) (body : List X) → Progress line P Closes p body m
+      → ((y : X) (rest : List Piece) → Reads m (line y rest) → P y → ⊥)
+      → (xs : List X) (rest : List Piece) → Reads p (each_of line xs rest) → AllOf P xs → Closes rest → (body ≡ xs) × Reads m rest
+  unfolding AllOf
+  finished_by p m body done ends xs rest r h c = let a = done.only xs rest r h c in whole a.0 a.1 a.2 a.3
+    where
+      whole : (ys : List X) → xs ≡ body ++ ys → Reads m (each_of line ys rest) → AllOf P ys → (body ≡ xs) × Reads m rest
+      whole [] e r g = (sym (e ∙ append-nil body), r)
+      whole (y ∷ ys) e r g = absurd (ends y (each_of line ys rest) r g.0)
+
   pub finished : (p m : Place) (body : List X) → Progress line P Closes p body m
       → ((y : X) (rest : List Piece) → Reads m (line y rest) → ⊥)
       → (xs : List X) (rest : List Piece) → Reads p (each_of line xs rest) → AllOf P xs → Closes rest → (body ≡ xs) × Reads m rest
-  finished p m body done ends xs rest r h c = let a = done.only xs rest r h c in whole a.0 a.1 a.2
-    where
-      whole : (ys : List X) → xs ≡ body ++ ys → Reads m (each_of line ys rest) → (body ≡ xs) × Reads m rest
-      whole [] e r = (sym (e ∙ append-nil body), r)
-      whole (y ∷ ys) e r = absurd (ends y (each_of line ys rest) r)
+  finished p m body done ends = finished_by p m body done (λ y rest r good. ends y rest r)
 
   pub refused : {Y : Type 0} (p m n : Place) (body : List X) (e : TokenFault) → Progress line P Closes p body m
       → ((y : X) (rest : List Piece) → Reads m (line y rest) → P y → Stops y rest → Gives {X = X} (Err e) y (Reads n rest))

@@ -10,7 +10,9 @@ use Rattle.js_tree.specs.Lexing.{Place}
 use Rattle.js_tree.specs.Operators.{is_assignment, is_binary, level_of}
 use Rattle.js_tree.specs.Pieces.{Piece, Tok, one, kind}
 use Rattle.js_tree.specs.Spelling.Nodes.{BINARY, POWER}
-use Rattle.js_tree.specs.TokenKinds.{is}
+use Rattle.js_tree.specs.TokenKinds.{code, is}
+use Rattle.js_tree.specs.contracts.token_kind.TokenKind.{the_type}
+use denote.Enum.Declared.{tag_of}
 use Rattle.js_tree.proofs.KindLemmas.{is_same, every}
 use Rattle.js_tokens.proofs.AheadLemmas.{one_next}
 use Rattle.js_tokens.specs.Ahead.{reads, IsTwin, IsNextKind, IsNextLine}
@@ -19,6 +21,21 @@ use Rattle.js_tokens.specs.declared.fault.TokenFault.{TokenFault}
 use Rattle.js_tokens.specs.declared.goal.Goal.TheVariants as goal
 use Rattle.js_parser.specs.Following.{strength, IsStrength, separates}
 use Rattle.js_parser.specs.Nodes.{IsListRank}
+
+-- NUMBERS
+
+numbered : TokenKind → Bool
+numbered k = tag_of the_type k == code k
+
+-- the number of a kind in the code is the one in the table
+pub number : (k : TokenKind) → tag_of the_type k ≡ code k
+unfolding numbered
+number k = same_number _ _ (every numbered refl k)
+  where
+    same_number : (a b : ℕ) → (a == b) ≡ true → a ≡ b
+    same_number a b e = grind (arith, nat_tests, e)
+
+-- WHAT IS TOLD
 
 odd_twin : (j k : TokenKind) → IsTwin j k → reads goal.Operator j ≡ true → ⊥
 odd_twin kinds.Regex k w r = true≢false (sym r)

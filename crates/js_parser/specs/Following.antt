@@ -26,6 +26,12 @@ begins_tail calls kind.TemplateWhole = true
 begins_tail calls kind.TemplateHead = true
 begins_tail calls _ = false
 
+-- a part of a template behind a substitution
+abbrev pub is_part : TokenKind → Bool
+is_part kind.TemplateMiddle = true
+is_part kind.TemplateTail = true
+is_part _ = false
+
 -- one more than the rank of an expression whose first part stands before the token, or 0 where none goes on with it
 abbrev pub strength : TokenKind → Bool → ℕ
 strength k nl =

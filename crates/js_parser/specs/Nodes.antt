@@ -1,6 +1,7 @@
 -- What each rule of the grammar reads, and what must hold of it.
-use Rattle.std.specs.Prelude.{◌≡◌, ℕ, ◌+◌, ◌≤◌, ◌<◌, ◌==◌, nat_le, max, List, [], ◌∷◌, length, Option, Some, None, is_some, ◌⊎◌, Result, IfOk, IfErr, Bool, true, false, ◌&&◌, ◌||◌, not}
+use Rattle.std.specs.Prelude.{◌≡◌, ℕ, ◌+◌, ◌≤◌, ◌<◌, ◌==◌, nat_le, max, List, [], ◌∷◌, length, Option, is_some, ◌⊎◌, Result, IfOk, IfErr, Bool, true, false, ◌&&◌, ◌||◌, not, codes}
 use Rattle.std.specs.List.{list_all}
+use Rattle.std.specs.Str.{bytes_eq}
 use Rattle.std.specs.declared.alloc.Global.{Global}
 use denote.Ref.{MutBor}
 use Rattle.js_tree.specs.declared.lists.Arm.{Arm}
@@ -22,6 +23,7 @@ use Rattle.js_tree.specs.declared.tree.Pattern.{Pattern}
 use Rattle.js_tree.specs.declared.tree.Function.{Function}
 use Rattle.js_tree.specs.declared.tree.Slot.{Slot}
 use Rattle.js_tree.specs.declared.tree.Stmt.{Stmt}
+use Rattle.js_tree.specs.Folds.{ExprLayer}
 use Rattle.js_tree.specs.Lexing.{Place}
 use Rattle.js_tree.specs.Pieces.{Piece, Tok, Ahead, Onto}
 use Rattle.js_tree.specs.Spelling.{expr, function, slot, stmt, stmts, stmts_height, tallest_of}
@@ -36,7 +38,7 @@ use Rattle.js_tokens.specs.Pieces.{Reads, Read, OnlyRead, Gives, Moves, Refuses,
 use Rattle.js_tokens.specs.declared.fault.TokenFault.{TokenFault}
 use Rattle.js_parser.specs.declared.tall.Tall.{Tall}
 use Rattle.js_parser.specs.declared.tall.Value.{Value}
-use Rattle.js_parser.specs.Following.{Stops, NoKind, rest_level, separates, begins_tail}
+use Rattle.js_parser.specs.Following.{Stops, NoKind, Leads, rest_level, separates, begins_tail}
 use Rattle.js_parser.specs.Patterns.{Covers}
 
 -- LINES
@@ -251,6 +253,11 @@ ReadsSubstitutions room = ReadsAs (λ x. template_parts pieces expr_line x.node)
 
 -- TAILS
 
+-- the expression is the name `eval`
+abbrev pub names_eval : ExprLayer → Bool
+names_eval (Expr-F.«Expr::Name» t) = bytes_eq t.text (codes "eval")
+names_eval _ = false
+
 abbrev pub tail_stands : Tail Expr → Bool
 tail_stands (tail.Member dot name) = true
 tail_stands (tail.Index begin value end) = stands 0 (expr value)
@@ -267,6 +274,10 @@ pub record TailAt (room : ℕ) (x : Tall (Tail Expr)) : Type 0 where
 
 abbrev pub ReadsTail : ℕ → Place → Place → Result (Tall (Tail Expr)) TokenFault → Type 0
 ReadsTail room = ReadsAs (λ x. tail_line x.node) (TailAt room) (Anywhere (Tall (Tail Expr)))
+
+-- arguments were read only where `(` stands
+abbrev pub CallsHere : Place → Result (Tall (Tail Expr)) TokenFault → Type 0
+CallsHere p result = IfOk result (λ x. is_call x.node ≡ true → Leads (is kind.LeftParen) p)
 
 -- arguments among the tails only where they may stand there
 abbrev pub may_call : Bool → Tail Expr → Bool

@@ -1,11 +1,21 @@
 //! Tails of chains, arguments and templates (ECMA-262, 12.2.9 and 12.3).
-ghost use Rattle.std.specs.Prelude.{◌≡◌, ◌≤◌, ◌<◌, ◌-◌, codes};
+ghost use Rattle.std.specs.Prelude.{◌≡◌, ◌≤◌, ◌<◌, ◌-◌, Bool, true, IfOk, codes, length};
+ghost use Rattle.js_tree.specs.declared.token.Token.{Token};
+ghost use Rattle.js_tree.specs.declared.token_kind.TokenKind.{TokenKind};
+ghost use Rattle.js_tree.specs.declared.token_kind.TokenKind.TheVariants as kinds;
+ghost use Rattle.js_tree.specs.declared.tree.Expr.{out-Expr};
+ghost use Rattle.js_tree.specs.Lexical.{Next};
+ghost use Rattle.js_tree.specs.Operators as operators;
+ghost use Rattle.js_tree.specs.Pieces.{one, kind as kind_of};
 ghost use Rattle.js_tree.specs.Spelling.{expr as seen};
 ghost use Rattle.js_tree.specs.Spelling.Nodes.{is_named};
-ghost use Rattle.js_tree.specs.declared.token_kind.TokenKind.TheVariants as kinds;
+ghost use Rattle.js_tree.specs.TokenKinds.{is};
 ghost use Rattle.js_tokens.specs.Ahead.{IsNextKind};
-ghost use Rattle.js_parser.specs.Nodes.{Knot, ReadsSubstitutions, ReadsArguments, ReadsTemplate, ReadsTail, ReadsTails, ReadsElement};
+ghost use Rattle.js_tokens.specs.Pieces.{OnlyRead, Any, Anywhere, Moves};
+ghost use Rattle.js_parser.specs.Following.{is_part};
+ghost use Rattle.js_parser.specs.Nodes.{Knot, names_eval, CallsHere, ReadsSubstitutions, ReadsArguments, ReadsTemplate, ReadsTail, ReadsTails, ReadsElement};
 
+use crate::brackets::{goes_on, put};
 use crate::grammar::Grammar;
 use crate::kinds::{are_same, begins_tail};
 use crate::marks::{mark, maybe_mark};
@@ -19,6 +29,13 @@ use std::alloc::Global;
 pub fn is_eval(head: &Expr) -> bool
     ensures { result ≡ is_named (codes "eval") (seen head.now) }
 {
+    is_eval_name(head)
+}
+
+// The same by the kind of the expression.
+fn is_eval_name(head: &Expr) -> bool
+    ensures { result ≡ names_eval (out-Expr head.now) }
+{
     match head {
         Expr::Name(name) => name.text.as_str() == "eval",
         _ => false,
@@ -28,8 +45,7 @@ pub fn is_eval(head: &Expr) -> bool
 impl<
     E: Fn(Global, &mut TokenReader<'_>, u32, u8) -> Result<Value, TokenFault>,
     S: Fn(Global, &mut TokenReader<'_>, u32) -> Result<Tall<Items<Stmt>>, TokenFault>,
-> Grammar<E, S>
-{
+> Grammar<E, S> {
     /// The tails that stand next; arguments are among them only where they may be called.
     pub fn tails(
         &self,
@@ -55,6 +71,7 @@ impl<
         requires knot { Knot self.now.room (E.pre self.now.expr) (E.post self.now.expr) (S.pre self.now.stmts) (S.post self.now.stmts) }
         requires some { 0 < self.now.room }
         ensures reads { ReadsTail (self.now.room - 1) reader.old reader.new result }
+        ensures call { CallsHere reader.old result }
     {
         match reader.kind() {
             TokenKind::Dot => self.member(reader),
@@ -77,13 +94,13 @@ impl<
         requires some { 0 < self.now.room }
         requires told { IsNextKind reader.old kinds.Dot }
         ensures reads { ReadsTail (self.now.room - 1) reader.old reader.new result }
+        ensures call { CallsHere reader.old result }
     {
         let dot = mark(self.alloc, reader, TokenKind::Dot)?;
-        let refusal = reader.refusal();
-        let name = reader.take(self.alloc, Goal::Operator)?;
-        if !is_member_name(&name) {
-            return Err(refusal);
+        if !is_member_name(reader.kind()) {
+            return Err(reader.refusal());
         }
+        let name = reader.take(self.alloc, Goal::Operator)?;
         Ok(Tall {
             node: Tail::Member { dot, name },
             height: 0,
@@ -96,6 +113,7 @@ impl<
         requires some { 0 < self.now.room }
         requires told { IsNextKind reader.old kinds.LeftBracket }
         ensures reads { ReadsTail (self.now.room - 1) reader.old reader.new result }
+        ensures call { CallsHere reader.old result }
     {
         let open = mark(self.alloc, reader, TokenKind::LeftBracket)?;
         let value = self.inner(reader, 0)?;
@@ -123,18 +141,14 @@ impl<
         let mut front = Items::new(self.alloc);
         let mut last = None;
         let mut height = 0;
-        'arguments: while last.is_none() && !are_same(TokenKind::RightParen, reader.kind()) {
+        'arguments: while goes_on(&last, reader.kind()) {
             let Tall {
                 node: item,
                 height: tall,
             } = self.argument(reader)?;
+            let comma = maybe_mark(self.alloc, reader, TokenKind::Comma)?;
             height = higher(height, tall);
-            if are_same(TokenKind::Comma, reader.kind()) {
-                let mark = mark(self.alloc, reader, TokenKind::Comma)?;
-                front.push(Listed { item, mark })?;
-            } else {
-                last = Some(item);
-            }
+            put(&mut front, &mut last, item, comma)?;
         }
         let close = mark(self.alloc, reader, TokenKind::RightParen)?;
         Ok(Tall {
@@ -207,11 +221,11 @@ impl<
     {
         let mut all = Items::new(self.alloc);
         let mut height = 0;
-        let mut goes_on = true;
-        'substitutions: while goes_on {
+        let mut more = true;
+        'substitutions: while more {
             let value = self.inner(reader, 0)?;
             let mark = self.part(reader)?;
-            goes_on = is_middle(&mark);
+            more = is_middle(&mark);
             height = higher(height, value.height);
             all.push(Listed {
                 item: value.node,
@@ -222,7 +236,12 @@ impl<
     }
 
     // The part of a template behind a substitution.
-    fn part(&self, reader: &mut TokenReader<'_>) -> Result<Token, TokenFault> {
+    fn part(&self, reader: &mut TokenReader<'_>) -> Result<Token, TokenFault>
+        ensures found { IfOk result (λ t. Next reader.old t reader.new × (is_part (kind_of t) ≡ true)) }
+        ensures only { (test : TokenKind → Bool) → ((k : TokenKind) → test k ≡ true → is_part k ≡ true) → OnlyRead (one test) (Any Token) (Anywhere Token) reader.old reader.new result }
+        ensures moves { Moves reader.old reader.new result }
+        ensures shorter { IfOk result (λ _. length reader.new.left < length reader.old.left) }
+    {
         if !are_same(TokenKind::RightBrace, reader.kind()) {
             return Err(reader.refusal());
         }
@@ -230,17 +249,24 @@ impl<
     }
 }
 
-// Whether the name of a member may be this token.
-fn is_member_name(token: &Token) -> bool {
-    match token.class {
-        TokenClass::Name => true,
-        TokenClass::Word => true,
-        _ => false,
-    }
+// Whether the name of a member may be a token of this kind: a name or any word.
+fn is_member_name(kind: TokenKind) -> bool
+    ensures { result ≡ operators.is_member_name kind }
+{
+    are_same(TokenKind::Name, kind) || is_word(kind)
+}
+
+// Whether the kind is one of the table of words, which come last.
+fn is_word(kind: TokenKind) -> bool
+    ensures { result ≡ operators.is_word kind }
+{
+    TokenKind::Break as u8 <= kind as u8
 }
 
 // Whether a further substitution stands behind this part of a template.
-fn is_middle(token: &Token) -> bool {
+fn is_middle(token: &Token) -> bool
+    ensures { result ≡ is kinds.TemplateMiddle (kind_of token.now) }
+{
     match token.class {
         TokenClass::TemplateMiddle => true,
         _ => false,
