@@ -50,7 +50,7 @@ pub data Head (x : Expr) : Type 0 where
   IsNewTarget : (word dot target : Token) → out-Expr x ≡ Expr-F.NewTarget word dot target → Head x
   IsNew : (word : Token) (head : Expr) (tails : List (Tail Expr)) (args : Option (Bracket Expr)) → out-Expr x ≡ Expr-F.New word head tails args → Head x
 
-rank_at : (x : Expr) (l : ExprLayer) → out-Expr x ≡ l → (expr x).rank ≡ expr_rank (expr_layer l)
+pub rank_at : (x : Expr) (l : ExprLayer) → out-Expr x ≡ l → (expr x).rank ≡ expr_rank (expr_layer l)
 rank_at x l e = ap (λ (s : Seen). s.rank) (at_expr x l e)
 
 low : (n : ℕ) (x : Expr) → (expr x).rank ≡ n → n < NEW → nat_le NEW (expr x).rank ≡ true → Head x

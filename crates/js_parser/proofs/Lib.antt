@@ -1,11 +1,16 @@
 pub mod ArgumentLemmas
+pub mod AssignLemmas
 pub mod BeginLemmas
 pub mod BoundaryLemmas
 pub mod BracketLemmas
 pub mod ChainLemmas
+pub mod ChoiceLemmas
 pub mod ExprLemmas
+pub mod FormLemmas
 pub mod FunctionLemmas
 pub mod HeadLemmas
+pub mod JoinLemmas
+pub mod LeadLemmas
 pub mod ListLemmas
 pub mod ListedLemmas
 pub mod MadeLemmas
@@ -16,6 +21,7 @@ pub mod PlaceLemmas
 pub mod ReadLemmas
 pub mod SlotLemmas
 pub mod StmtLemmas
+pub mod StrengthLemmas
 pub mod TailLemmas
 pub mod TemplateLemmas
 pub mod TokenLemmas

@@ -9,37 +9,33 @@ use Rattle.js_tree.specs.declared.tree.Expr.TheOpen.{Expr-F}
 use Rattle.js_tree.specs.Folds.{ExprLayer}
 use Rattle.js_tree.specs.Lexing.{Place}
 use Rattle.js_tree.specs.Pieces.{Piece, Onto, kind as kind_of}
-use Rattle.js_tree.specs.Spelling.{expr, tallest_of}
+use Rattle.js_tree.specs.Spelling.{expr}
 use Rattle.js_tree.specs.Operators.{is_binary, is_update}
-use Rattle.js_tree.specs.Spelling.Expressions.{expr_rank}
-use Rattle.js_tree.specs.Spelling.Nodes.{Seen, pieces, unmarked, stands, is_empty, all_further, BINARY, POWER, UNARY, UPDATE, binary_rank}
+use Rattle.js_tree.specs.Spelling.Expressions.{expr_musts, expr_rank, expr_row}
+use Rattle.js_tree.specs.Spelling.Nodes.{Seen, musts, pieces, unmarked, stands, is_empty, all_further, BINARY, POWER, UNARY, UPDATE, binary_rank}
 use Rattle.js_tree.specs.TokenKinds.{is as is_kind}
 use Rattle.js_tree.specs.declared.token_kind.TokenKind.TheVariants as kinds
 use Rattle.js_tree.specs.declared.lists.Bracket.{Bracket}
 use Rattle.js_tree.specs.Spelling.Rows.{each_of, further_row}
 use Rattle.js_tree.specs.declared.token_kind.TokenKind.{TokenKind}
 use Rattle.js_tree.proofs.Folds.{map_further}
-use Rattle.js_tree.proofs.SpellingLemmas.{at_expr, expr_layer, expr_line_at}
+use Rattle.js_tree.proofs.SpellingLemmas.{at_expr, expr_layer, expr_line_at, seen_lines}
 use Rattle.js_tokens.specs.Pieces.{Reads}
 use Rattle.js_parser.specs.declared.tall.Value.{Value}
-use Rattle.js_parser.specs.Nodes.{ValueAt, IsListRank, value_line, expr_line, further_line, further_stands, further_height}
+use Rattle.js_parser.specs.Nodes.{ValueAt, IsListRank, list_layer, value_line, expr_line, further_line, further_stands, further_height}
 
--- the layer of a list of this rank
-abbrev pub list_layer : ℕ → Expr → List (Further Expr) → ExprLayer
-list_layer rank first others = if rank == 0 then Expr-F.Comma first others else Expr-F.Binary (rank - 2) first others
-
-abbrev seen_others : List (Further Expr) → List (Further Seen)
+abbrev pub seen_others : List (Further Expr) → List (Further Seen)
 seen_others = map (map_further expr)
 
-all_seen : (rank : ℕ) (xs : List (Further Expr)) → all_further (stands (rank + 1)) (seen_others xs) ≡ list_all (further_stands rank) xs
+pub all_seen : (rank : ℕ) (xs : List (Further Expr)) → all_further (stands (rank + 1)) (seen_others xs) ≡ list_all (further_stands rank) xs
 all_seen rank [] = refl
 all_seen rank (x ∷ xs) = ap (λ b. further_stands rank x && b) (all_seen rank xs)
 
-empty_seen : (xs : List (Further Expr)) → is_empty (seen_others xs) ≡ is_empty xs
+pub empty_seen : (xs : List (Further Expr)) → is_empty (seen_others xs) ≡ is_empty xs
 empty_seen [] = refl
 empty_seen (x ∷ xs) = refl
 
-height_seen : (test : TokenKind → Bool) (xs : List (Further Expr)) → each_of (further_row unmarked (λ (x : Seen) h. max x.height h) test) (seen_others xs) 0 ≡ further_height xs
+pub height_seen : (test : TokenKind → Bool) (xs : List (Further Expr)) → each_of (further_row unmarked (λ (x : Seen) h. max x.height h) test) (seen_others xs) 0 ≡ further_height xs
 height_seen test [] = refl
 height_seen test (x ∷ xs) = ap (max (expr x.item).height) (height_seen test xs)
 
@@ -54,29 +50,33 @@ pub record ListView (rank : ℕ) (p : Place) (x : Expr) (rest : List Piece) : Ty
   pub some : is_empty others ≡ false
   pub height : (expr x).height ≡ max (expr first).height (further_height others) + 1
 
-both : (a b : Bool) → (a && b) ≡ true → (a ≡ true) × (b ≡ true)
+pub both : (a b : Bool) → (a && b) ≡ true → (a ≡ true) × (b ≡ true)
 both true b e = (refl, e)
 both false b e = absurd (true≢false (sym e))
 
-is_false : (a : Bool) → not a ≡ true → a ≡ false
+pub is_false : (a : Bool) → not a ≡ true → a ≡ false
 is_false true e = absurd (true≢false (sym e))
 is_false false e = refl
+
+pub is_true : (a : Bool) → not a ≡ false → a ≡ true
+is_true true e = refl
+is_true false e = absurd (true≢false e)
 
 pub comma_view : (p : Place) (x : Expr) (rest : List Piece) (first : Expr) (others : List (Further Expr)) → out-Expr x ≡ Expr-F.Comma first others → (expr x).is_sound ≡ true
     → Reads p (expr_line x rest) → ListView 0 p x rest
 comma_view p x rest first others e sound r =
     let s = at_expr x (Expr-F.Comma first others) e in
-    let ok = both _ _ (sym (ap (λ (t : Seen). t.is_sound) s) ∙ sound) in
-    let more = both _ _ ok.1 in
+    let ok : ((stands 1 (expr first) && not (is_empty (seen_others others))) ≡ true) × (all_further (stands 1) (seen_others others) ≡ true) = both _ _ (sym (ap (λ (t : Seen). t.is_sound) s) ∙ sound) in
+    let front : (stands 1 (expr first) ≡ true) × (not (is_empty (seen_others others)) ≡ true) = both _ _ ok.0 in
     record {
       first = first;
       others = others;
       is = e;
       read = subst (λ (ps : List Piece). Reads p ps) (expr_line_at x (Expr-F.Comma first others) e rest) r;
-      stands = ok.0;
-      each = sym (all_seen 0 others) ∙ more.1;
-      some = sym (empty_seen others) ∙ is_false _ more.0;
-      height = ap (λ (t : Seen). t.height) s ∙ ap (λ n. max (expr first).height n + 1) (height_seen _ others);
+      stands = front.0;
+      each = sym (all_seen 0 others) ∙ ok.1;
+      some = sym (empty_seen others) ∙ is_false _ front.1;
+      height = ap (λ (t : Seen). t.height) s ∙ ap (λ n. max (expr first).height n + 1) (height_seen (is_kind kinds.Comma) others);
     }
 
 pub binary_view : (rank : ℕ) (p : Place) (x : Expr) (rest : List Piece) (l : ℕ) (first : Expr) (others : List (Further Expr)) → binary_rank l ≡ rank → out-Expr x ≡ Expr-F.Binary l first others
@@ -98,7 +98,7 @@ binary_view rank p x rest l first others is e r = subst (λ (n : ℕ). ListView 
     view : ListView (binary_rank l) p x rest
     view =
         let s = at_expr x (Expr-F.Binary l first others) e in
-        let m : Reads p _ = subst (λ (ps : List Piece). Reads p ps) (expr_line_at x (Expr-F.Binary l first others) e rest) r in
+        let m : Reads p (musts (expr_musts (expr_layer (Expr-F.Binary l first others))) (expr_row seen_lines (Expr-F.Binary l first others) rest)) = subst (λ (ps : List Piece). Reads p ps) (expr_line_at x (Expr-F.Binary l first others) e rest) r in
         record {
           first = first;
           others = others;
@@ -107,7 +107,7 @@ binary_view rank p x rest l first others is e r = subst (λ (n : ℕ). ListView 
           stands = m.1.0;
           each = sym (all_seen (binary_rank l) others) ∙ m.1.1.1.0;
           some = sym (empty_seen others) ∙ is_false _ m.1.1.0;
-          height = ap (λ (t : Seen). t.height) s ∙ ap (λ n. max (expr first).height n + 1) (height_seen _ others);
+          height = ap (λ (t : Seen). t.height) s ∙ ap (λ n. max (expr first).height n + 1) (height_seen (is_binary l) others);
         }
 
 nat_eq : (a b : ℕ) → (a ≡ b) ⊎ (a ≡ b → ⊥)
@@ -119,10 +119,10 @@ pub list_view : (rank room : ℕ) → IsListRank rank → (p : Place) (x : Value
 list_view rank room list p x rest at r = by_layer (out-Expr x.node) refl
   where
     sound : (expr x.node).is_sound ≡ true
-    sound = (both _ _ at.stands).0
+    sound = (both (expr x.node).is_sound (nat_le rank (expr x.node).rank) at.stands).0
 
     least : nat_le rank (expr x.node).rank ≡ true
-    least = (both _ _ at.stands).1
+    least = (both (expr x.node).is_sound (nat_le rank (expr x.node).rank) at.stands).1
 
     -- of another rank
     other : (n : ℕ) → (expr x.node).rank ≡ n → (n ≡ rank → ⊥) → ListView rank p x.node rest ⊎ ValueAt (rank + 1) room x

@@ -34,7 +34,3 @@ seen_at l x is below order target sound rank is_target height =
 -- the line of the node of a layer
 pub read_at : (l : ExprLayer) (x : Expr) → roll-Expr l ≡ x → (p m : Place) → ((rest : List Piece) → Reads m rest → Reads p (musts (expr_musts (expr_layer l)) (expr_row seen_lines l rest))) → Read p (expr_line x) m
 read_at l x is p m f rest r = subst (λ (ps : List Piece). Reads p ps) (sym (expr_line_at x l (out_of l x is) rest)) (f rest r)
-
--- a token of one kind in front
-pub mark_read : (p m : Place) (t : Token) (k : TokenKind) (rest : List Piece) → Next p t m → kind t ≡ k → Reads m rest → Reads p (Tok t (is k) ∷ rest)
-mark_read p m t k rest next same r = (m, next, ap (is k) same ∙ is_itself k, r)

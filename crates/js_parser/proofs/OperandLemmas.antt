@@ -14,6 +14,7 @@ use Rattle.js_tokens.proofs.AheadLemmas.{one_next}
 use Rattle.js_tokens.specs.Pieces.{Reads}
 use Rattle.js_tokens.specs.declared.goal.Goal.TheVariants as goal
 use Rattle.js_parser.proofs.ListLemmas.{AllOf}
+use Rattle.js_parser.proofs.ListedLemmas.{both}
 use Rattle.js_parser.proofs.TokenLemmas.{separates_plain, separates_strength}
 use Rattle.js_parser.specs.Following.{Stops, IsStrength, strength}
 use Rattle.js_parser.specs.Nodes.{IsListRank, OperandAt, OperandsAt, further_line, further_stands, further_height}
@@ -32,10 +33,6 @@ operand_at rank room x at = record { stands = at.0; height = refl; fits = at.1 }
 
 pub operand_is : (rank room : ℕ) (x : Tall (Further Expr)) → OperandAt rank room x → IsOperand rank room x.node
 operand_is rank room x at = (at.stands, omega (arith, at.height, at.fits))
-
-both : (a b : Bool) → (a && b) ≡ true → (a ≡ true) × (b ≡ true)
-both true b e = (refl, e)
-both false b e = absurd (true≢false (sym e))
 
 all_of : (rank room : ℕ) (xs : List (Further Expr)) → list_all (further_stands rank) xs ≡ true → further_height xs ≤ room → AllOf (IsOperand rank room) xs
 unfolding AllOf

@@ -1,5 +1,6 @@
 -- An expression in brackets, and what stands behind an expression.
-use Rattle.std.proofs.Common.{◌≡◌, ℕ, ◌+◌, ◌-◌, ◌<◌, ◌≤◌, max, Bool, true, false, ◌&&◌, List, ◌∷◌, refl, sym, ap, ◌∙◌, subst, arith, true≢false}
+use Rattle.std.proofs.Common.{◌≡◌, ℕ, ◌+◌, ◌-◌, ◌≤◌, max, Bool, true, ◌&&◌, List, ◌∷◌, refl, sym, ap, ◌∙◌, subst, arith}
+use Rattle.std.proofs.lemmas.Bool.{and_parts}
 use Rattle.std.specs.Prelude.{nat_le}
 use Rattle.std.proofs.lemmas.Bool.Decides.{nat_tests}
 use Rattle.js_tree.specs.Lexing.{Place}
@@ -30,10 +31,6 @@ stops_mark level asked end rest plain weak m r t n a h =
     let k : kind_of t ≡ asked = ap kind_of same.0 ∙ is_same asked (kind_of end) r.2 in
     subst (λ (j : TokenKind). strength j t.nl_before ≤ level) (sym k) (weak t.nl_before)
 
-sound_of : (a b : Bool) → (a && b) ≡ true → a ≡ true
-sound_of true b e = refl
-sound_of false b e = absurd (true≢false (sym e))
-
 -- a sound expression stands where each does
 pub stands_any : (x : Expr) → (expr x).is_sound ≡ true → stands 0 (expr x) ≡ true
 stands_any x e = ap (λ (b : Bool). b && nat_le 0 (expr x).rank) e ∙ zero_least (expr x).rank
@@ -45,10 +42,10 @@ pub inner_at : (room : ℕ) (x : Value) (begin : Token) (inner : Expr) (end : To
 inner_at room x begin inner end e at =
     let s = at_expr x.node (Expr-F.«Expr::Paren» begin inner end) e in
     let height : (expr x.node).height ≡ max (expr inner).height 0 + 1 = ap (λ (t : Seen). t.height) s in
-    value_at 0 (room - 1) inner (stands_any inner (sym (ap (λ (t : Seen). t.is_sound) s) ∙ sound_of _ _ at.stands)) (omega (arith, height, at.height, at.fits))
+    value_at 0 (room - 1) inner (stands_any inner (sym (ap (λ (t : Seen). t.is_sound) s) ∙ (and_parts _ _ at.stands).0)) (omega (arith, height, at.height, at.fits))
 
 pub paren_stops : (end : Token) (rest : List Piece) → Stops 0 (Tok end (is kinds.RightParen) ∷ rest)
 paren_stops end rest = stops_mark 0 kinds.RightParen end rest refl (λ nl. omega arith)
 
 pub sound_at : (level room : ℕ) (x : Value) → ValueAt level room x → (expr x.node).is_sound ≡ true
-sound_at level room x at = sound_of _ _ at.stands
+sound_at level room x at = (and_parts _ _ at.stands).0

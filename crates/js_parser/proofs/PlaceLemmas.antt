@@ -1,7 +1,7 @@
 -- Tokens that are passed, and the place of a refusal.
 use Rattle.std.proofs.Common.{◌≡◌, List, [], ◌∷◌, ◌++◌, Result, Ok, Err, refl, sym, subst}
 use Rattle.std.specs.Result.{IsErrAnd}
-use Rattle.js_tree.specs.Lexical.{LexesTo, Next}
+use Rattle.js_tree.specs.Lexical.{LexesTo}
 use Rattle.js_tree.specs.Lexing.{Place}
 use Rattle.js_tree.specs.declared.token.Token.{Token}
 use Rattle.js_tokens.specs.Pieces.{Passes, Refuses, Moves}
@@ -11,10 +11,6 @@ use Rattle.js_tokens.specs.declared.fault.TokenFault.TheVariants as fault
 lexes_on : (ts us : List Token) (p m n : Place) → LexesTo p ts m → LexesTo m us n → LexesTo p (ts ++ us) n
 lexes_on [] us p m n e l = subst (λ (q : Place). LexesTo q us n) (sym e) l
 lexes_on (t ∷ ts) us p m n l k = (l.0, l.1, lexes_on ts us l.0 m n l.2 k)
-
--- one token
-pub passes_one : (p m : Place) (t : Token) → Next p t m → Passes p m
-passes_one p m t next = (t ∷ [], (m, next, refl))
 
 pub passes_none : (p : Place) → Passes p p
 passes_none p = ([], refl)

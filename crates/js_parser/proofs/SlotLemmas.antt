@@ -1,5 +1,6 @@
 -- A slot as its parts, a slot made of parts, and the slots behind the first one.
 use Rattle.std.proofs.Common.{◌≡◌, ℕ, ◌+◌, ◌-◌, ◌≤◌, ◌<◌, max, Bool, true, false, ◌&&◌, List, [], ◌∷◌, Option, Some, None, is_some, not, refl, sym, ap, ◌∙◌, subst, arith, true≢false}
+use Rattle.std.proofs.lemmas.Bool.{and_parts}
 use Rattle.std.specs.List.{list_all}
 use Rattle.std.specs.Prelude.{nat_le}
 use Rattle.js_tree.specs.declared.lists.Further.{Further}
@@ -42,10 +43,6 @@ pub record SlotView (p : Place) (x : Slot) (rest : List Piece) : Type 0 where
   pub read : Reads p (Tok name (is kinds.Name) ∷ init_line init rest)
   pub height : (slot x).height ≡ max 1 (init_height init)
   pub target : (slot x).is_target ≡ not (is_some init)
-
-both : (a b : Bool) → (a && b) ≡ true → (a ≡ true) × (b ≡ true)
-both true b e = (refl, e)
-both false b e = absurd (true≢false (sym e))
 
 -- what is seen of a name and what it is given
 unfoldable pub named : Token → Option (Init Expr) → Seen
@@ -93,7 +90,7 @@ slot_view p x rest good r = by_target (out-Pattern (out-Slot x).target) refl
 
     low : (l : PatternLayer) → out-Pattern target ≡ l → (pattern target).rank ≡ 1 → SlotView p x rest
     low l e rank =
-        let whole = both (slot x).is_sound (nat_le DECLARED (slot x).rank) good in
+        let whole = and_parts (slot x).is_sound (nat_le DECLARED (slot x).rank) good in
         absurd (true≢false (sym whole.1 ∙ ap (λ (n : ℕ). nat_le DECLARED n) (ap (λ (t : Seen). t.rank) (at-Slot x) ∙ rank)))
 
     by_target : (l : PatternLayer) → out-Pattern target ≡ l → SlotView p x rest
@@ -162,7 +159,7 @@ further_tall = tallest_of (λ y. (slot y.item).height)
 all_of : (room : ℕ) (xs : List (Further Slot)) → list_all (λ y. stands DECLARED (slot y.item)) xs ≡ true → further_tall xs ≤ room → AllOf (IsFurtherSlot room) xs
 unfolding AllOf
 all_of room [] e h = tt
-all_of room (x ∷ xs) e h = let s = both _ _ e in ((s.0, omega (arith, h)), all_of room xs s.1 (omega (arith, h)))
+all_of room (x ∷ xs) e h = let s = and_parts _ _ e in ((s.0, omega (arith, h)), all_of room xs s.1 (omega (arith, h)))
 
 pub slots_of : (room : ℕ) (x : Tall (List (Further Slot))) → SlotsAt room x → AllOf (IsFurtherSlot room) x.node
 slots_of room x at = all_of room x.node at.each (omega (arith, at.height, at.fits))

@@ -193,7 +193,7 @@ viewed p x rest k next r (Stmt-F.Vars word first others None) e =
     absurd (true≢false (sym m.1.1.0))
 viewed p x rest k next r (Stmt-F.Return word value (Some semi)) e =
     let m : Reads p (Must (given_stands value) ∷ Must true ∷ Tok word (is kinds.Return) ∷ given_line value (Tok semi (is kinds.Semicolon) ∷ rest)) =
-        subst (λ (ps : List Piece). Reads p ps) (return_line x word value semi e rest) r in
+    subst (λ (ps : List Piece). Reads p ps) (return_line x word value semi e rest) r in
     record {
       sort = sorts.Return;
       view = record {

@@ -72,7 +72,7 @@ either : (a b : Bool) → (a || b) ≡ true → a ≡ false → b ≡ true
 either true b h e = absurd (true≢false e)
 either false b h e = h
 
-equal : (a b : ℕ) → (a == b) ≡ true → a ≡ b
+pub equal : (a b : ℕ) → (a == b) ≡ true → a ≡ b
 equal a b e = grind (arith, nat_tests, e)
 
 -- a token with which an expression goes on is one that the goal Operator reads

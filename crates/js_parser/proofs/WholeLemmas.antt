@@ -66,6 +66,11 @@ at_stop P token_fault.OutOfMemory (fault.Construct stop what) made holds = absur
 at_stop P token_fault.OutOfMemory (fault.TooLarge n) made holds = tt
 at_stop P token_fault.OutOfMemory fault.OutOfMemory made holds = tt
 
+-- the fault of an answer
+abbrev fault_or : ParseFault → Result Tree ParseFault → ParseFault
+fault_or f (Ok tree) = f
+fault_or f (Err g) = g
+
 module _ (text : List ℕ) (e : TokenFault) (f : ParseFault) (made : IsFaultOf e f) where
   pub only_tree : (tree : Tree) → Gives {X = Tree} (Err e) tree (Unit {0}) → IsTree (Err f) tree
   only_tree tree gives = by_fault e f made gives
@@ -100,13 +105,8 @@ module _ (text : List ℕ) (e : TokenFault) (f : ParseFault) (made : IsFaultOf e
     only = λ n is. absurd (not_large n (same n is));
   }
     where
-      fault_or : Result Tree ParseFault → ParseFault
-      fault_or (Ok tree) = f
-      fault_or (Err g) = g
-
       same : (n : ℕ) → ◌≡◌ {A = Result Tree ParseFault} (Err f) (Err (fault.TooLarge n)) → f ≡ fault.TooLarge n
-      unfolding fault_or
-      same n is = ap fault_or is
+      same n is = ap (fault_or f) is
 
 -- a text that is read is not too large
 pub read_within : (text : List ℕ) (tree : Tree) → length text ≤ limit → TellsTooLarge text (Ok tree)

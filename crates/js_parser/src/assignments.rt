@@ -1,6 +1,8 @@
 //! Assignments and choices (ECMA-262, 12.14 and 12.15).
-ghost use Rattle.std.specs.Prelude.{◌≡◌, ◌≤◌, ◌<◌, true};
-ghost use Rattle.js_parser.specs.Nodes.{Knot, ReadsExpr};
+ghost use Rattle.std.specs.Prelude.{◌≡◌, ◌≤◌, ◌<◌, IfOk, true};
+ghost use Rattle.js_tree.specs.Spelling.{expr};
+ghost use Rattle.js_tree.specs.Spelling.Nodes.{COND};
+ghost use Rattle.js_parser.specs.Nodes.{AssignsTo, Chooses, GoesOn, Knot, ReadsArm, ReadsExpr, ValueAt};
 
 use crate::grammar::Grammar;
 use crate::marks::{mark, next_strength};
@@ -36,9 +38,16 @@ impl<
         requires some { 0 < self.now.room }
         requires first { ValueAt 3 self.now.room first }
         ensures reads { GoesOn AssignsTo 1 self.now.room first reader.old reader.new result }
+        ensures other { IfOk result (λ x. (expr x.node).rank ≡ COND → ⊥) }
     {
-        if !first.is_target || next_strength(reader) != 2 {
+        if !first.is_target {
             return Ok(first);
+        }
+        if next_strength(reader) != 2 {
+            return Ok(first);
+        }
+        if self.room <= first.height {
+            return Err(reader.refusal());
         }
         let op = reader.take(self.alloc, Goal::Operator)?;
         let target = pattern_of(self.alloc, first.node, first.height)?;
@@ -59,20 +68,19 @@ impl<
         requires first { ValueAt 3 self.now.room first }
         ensures reads { GoesOn Chooses 1 self.now.room first reader.old reader.new result }
     {
+        if next_strength(reader) != 3 {
+            return Err(reader.refusal());
+        }
         let mut arms = Items::new(self.alloc);
         let mut height = 0;
         let mut test = first;
         'arms: while next_strength(reader) == 3 {
-            let question = mark(self.alloc, reader, TokenKind::Question)?;
-            let given = self.inner(reader, 1)?;
-            let colon = mark(self.alloc, reader, TokenKind::Colon)?;
-            height = higher(height, higher(test.height, given.height));
-            arms.push(Arm {
-                test: test.node,
-                question,
-                value: given.node,
-                colon,
-            })?;
+            let Tall {
+                node: arm,
+                height: tall,
+            } = self.arm(reader, test)?;
+            height = higher(height, tall);
+            arms.push(arm)?;
             test = self.inner(reader, 3)?;
         }
         let last = self.assigned(reader, test)?;
@@ -82,5 +90,30 @@ impl<
             last: last.node,
         };
         value(self.alloc, reader, self.room, node, below, 2, false)
+    }
+
+    // The test that is given, and the value where it holds.
+    fn arm(
+        &self,
+        reader: &mut TokenReader<'_>,
+        test: Value,
+    ) -> Result<Tall<Arm<Boxed<Expr>>>, TokenFault>
+        requires knot { Knot self.now.room (E.pre self.now.expr) (E.post self.now.expr) (S.pre self.now.stmts) (S.post self.now.stmts) }
+        requires some { 0 < self.now.room }
+        requires test { ValueAt 3 self.now.room test }
+        ensures reads { ReadsArm self.now.room test reader.old reader.new result }
+    {
+        let question = mark(self.alloc, reader, TokenKind::Question)?;
+        let given = self.inner(reader, 1)?;
+        let colon = mark(self.alloc, reader, TokenKind::Colon)?;
+        Ok(Tall {
+            height: higher(test.height, given.height),
+            node: Arm {
+                test: test.node,
+                question,
+                value: given.node,
+                colon,
+            },
+        })
     }
 }

@@ -1,6 +1,7 @@
 //! Expressions from the weakest level on (ECMA-262, 12.6 to 12.16).
 ghost use Rattle.std.specs.Prelude.{◌≡◌, ◌≤◌, ◌<◌, ◌+◌, ◌-◌, true};
-ghost use Rattle.js_parser.specs.Nodes.{Knot, IsListRank, is_level, ReadsExpr, ReadsOperand, ReadsOperands};
+ghost use Rattle.js_tree.specs.declared.tree.Expr.{out-Expr};
+ghost use Rattle.js_parser.specs.Nodes.{Knot, IsListRank, is_level, list_layer, GoesOn, Joins, ReadsExpr, ReadsOperand, ReadsOperands, ValueAt};
 
 use crate::grammar::Grammar;
 use crate::marks::next_strength;
@@ -45,16 +46,7 @@ impl<
         ensures reads { ReadsExpr 0 self.now.room reader.old reader.new result }
     {
         let first = self.assignment(reader)?;
-        if next_strength(reader) != 1 {
-            return Ok(first);
-        }
-        let others = self.operands(reader, 0)?;
-        let below = higher(first.height, others.height);
-        let node = Expr::Comma {
-            first: first.node,
-            rest: others.node,
-        };
-        value(self.alloc, reader, self.room, node, below, 0, false)
+        self.joined(reader, first, 0)
     }
 
     /// Operands with operators of this rank, from 3 to 12, and higher ones.
@@ -69,18 +61,31 @@ impl<
         let mut rank = 13;
         'ranks: while lowest < rank {
             rank -= 1;
-            if next_strength(reader) == rank + 1 {
-                let others = self.operands(reader, rank)?;
-                let below = higher(first.height, others.height);
-                let node = Expr::Binary {
-                    level: rank - 2,
-                    first: first.node,
-                    rest: others.node,
-                };
-                first = value(self.alloc, reader, self.room, node, below, rank, false)?;
-            }
+            first = self.joined(reader, first, rank)?;
         }
         Ok(first)
+    }
+
+    // A list of the rank whose first operand is given, where others follow; else the operand alone.
+    fn joined(
+        &self,
+        reader: &mut TokenReader<'_>,
+        first: Value,
+        rank: u8,
+    ) -> Result<Value, TokenFault>
+        requires knot { Knot self.now.room (E.pre self.now.expr) (E.post self.now.expr) (S.pre self.now.stmts) (S.post self.now.stmts) }
+        requires some { 0 < self.now.room }
+        requires rank { IsListRank rank }
+        requires first { ValueAt (rank + 1) self.now.room first }
+        ensures reads { GoesOn (Joins rank) rank self.now.room first reader.old reader.new result }
+    {
+        if next_strength(reader) != rank + 1 {
+            return Ok(first);
+        }
+        let others = self.operands(reader, rank)?;
+        let below = higher(first.height, others.height);
+        let node = listed(rank, first.node, others.node);
+        value(self.alloc, reader, self.room, node, below, rank, false)
     }
 
     /// The operands behind the first one of an expression of the rank, one at least, each with what stands before it.
@@ -138,5 +143,21 @@ impl<
                 item: value.node,
             },
         })
+    }
+}
+
+// The list of the rank.
+fn listed(rank: u8, first: Boxed<Expr>, rest: Items<Further<Boxed<Expr>>>) -> Expr
+    requires { IsListRank rank }
+    ensures { out-Expr result ≡ list_layer rank first rest }
+{
+    if rank == 0 {
+        Expr::Comma { first, rest }
+    } else {
+        Expr::Binary {
+            level: rank - 2,
+            first,
+            rest,
+        }
     }
 }

@@ -1,6 +1,7 @@
 //! Powers, and operators before and behind their operand (ECMA-262, 12.4 to 12.6).
-ghost use Rattle.std.specs.Prelude.{◌≡◌, ◌≤◌, ◌<◌};
+ghost use Rattle.std.specs.Prelude.{◌≡◌, ◌≤◌, ◌<◌, ◌||◌, not, if◌then◌else◌};
 ghost use Rattle.js_tree.specs.Operators as operators;
+ghost use Rattle.js_tree.specs.Spelling.Nodes.{UNARY, UPDATE};
 ghost use Rattle.js_parser.specs.Following.{Leads};
 ghost use Rattle.js_parser.specs.Nodes.{Knot, ReadsExpr};
 
@@ -26,7 +27,10 @@ impl<
         ensures reads { ReadsExpr 13 self.now.room reader.old reader.new result }
     {
         let base = self.unary(reader)?;
-        if base.rank < 15 || next_strength(reader) != 14 {
+        if base.rank < 15 {
+            return Ok(base);
+        }
+        if next_strength(reader) != 14 {
             return Ok(base);
         }
         let op = reader.take(self.alloc, Goal::Operator)?;
@@ -64,10 +68,10 @@ impl<
         let updates = is_update(reader.kind());
         let op = reader.take(self.alloc, Goal::Operator)?;
         let operand = self.inner(reader, 14)?;
-        if updates && !operand.is_target {
+        if !may_operate(updates, &operand) {
             return Err(refusal);
         }
-        let rank = if updates { 15 } else { 14 };
+        let rank = rank_of(updates);
         let node = Expr::Unary {
             op,
             operand: operand.node,
@@ -82,7 +86,10 @@ impl<
         ensures reads { ReadsExpr 16 self.now.room reader.old reader.new result }
     {
         let first = self.chain(reader)?;
-        if !first.is_target || next_strength(reader) != 17 {
+        if !first.is_target {
+            return Ok(first);
+        }
+        if next_strength(reader) != 17 {
             return Ok(first);
         }
         let op = reader.take(self.alloc, Goal::Operator)?;
@@ -93,4 +100,18 @@ impl<
         };
         value(self.alloc, reader, self.room, node, below, 16, false)
     }
+}
+
+// Whether the operator may stand before the operand: `++` and `--` ask for a target.
+fn may_operate(updates: bool, operand: &Value) -> bool
+    ensures { result ≡ (not updates || operand.now.is_target) }
+{
+    !updates || operand.is_target
+}
+
+// How tightly an operator and its operand hold together.
+fn rank_of(updates: bool) -> u8
+    ensures { result ≡ (if updates then UPDATE else UNARY) }
+{
+    if updates { 15 } else { 14 }
 }

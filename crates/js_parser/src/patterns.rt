@@ -1,8 +1,7 @@
 //! Expressions as what is assigned to (ECMA-262, 12.15.5).
-ghost use Rattle.std.specs.Prelude.{◌≡◌, IfOk, true};
+ghost use Rattle.std.specs.Prelude.{◌≡◌, ◌<◌, true};
 ghost use Rattle.js_tree.specs.Spelling as seen;
-ghost use Rattle.js_parser.specs.Patterns.{Covers};
-ghost use Rattle.js_tokens.specs.Pieces.{Gives};
+ghost use Rattle.js_parser.specs.Patterns.{MakesPattern};
 
 use crate::tall::Tall;
 use js_tokens::TokenFault;
@@ -16,6 +15,11 @@ pub fn pattern_of(
     target: Boxed<Expr>,
     height: u32,
 ) -> Result<Tall<Pattern>, TokenFault>
+    requires sound { (seen.expr target).is_sound ≡ true }
+    requires place { (seen.expr target).is_target ≡ true }
+    requires height { height ≡ (seen.expr target).height }
+    requires low { height < 4294967295 }
+    ensures made { MakesPattern target result }
 {
     match target.into_inner() {
         Expr::Name(name) => Ok(Tall {

@@ -2,7 +2,6 @@
 use Rattle.std.proofs.Common.{◌≡◌, ℕ, ◌+◌, ◌<◌, ◌≤◌, ◌==◌, Bool, true, false, cond, not, ◌||◌, nat_le, nat_lt, List, [], ◌∷◌, ◌++◌, map, length, length-append, length-drop, append_assoc, refl, sym, ap, ◌∙◌, subst, arith, Option, Some, None}
 use Rattle.std.specs.List.{AllByRecursion, count_by, flat_map, fold}
 use Rattle.std.proofs.lemmas.Bool.Decides.{Decides-ltb, nat_tests}
-use Rattle.std.proofs.lemmas.Grind.{flat_map-append}
 use Rattle.std.proofs.lemmas.Str.{chars-nil}
 use Rattle.std.proofs.lemmas.List.Sums.{sum_by-append, sum_by-cons}
 use Rattle.js_tree.specs.declared.token.Token.{Token}
@@ -23,7 +22,7 @@ use Rattle.js_tree.specs.Lexical.{IsIdentifier, LexesTo, Reaches}
 use Rattle.js_tree.specs.Lexical.Name as name
 use Rattle.js_tree.specs.Lexical.Regex as regex
 use Rattle.js_tree.specs.Lexing.{Place, start_of}
-use Rattle.js_tree.specs.Line.{LineItem, AToken, ANode, items, possible, line_of}
+use Rattle.js_tree.specs.Line.{LineItem, ANode, items, possible, line_of}
 use Rattle.js_tree.specs.Parts.{Node, AnExpr, AFunction, APattern, AStmt, ASlot, ATail, ABody, each_tail, parts, tails_behind}
 use Rattle.js_tree.specs.Spelling.{tokens_of}
 use Rattle.js_tree.specs.Spelling.Expressions.{expr_row}
@@ -324,24 +323,3 @@ some_token x = along_parts Begins begins_by (AnExpr x)
 pub few_exprs : (xs : List Expr) → length xs ≤ length (flat_map tokens_in (map AnExpr xs))
 few_exprs [] = omega arith
 few_exprs (x ∷ xs) = let a = some_token x in let b = few_exprs xs in let c = total_more (AnExpr x) (map AnExpr xs) in omega (arith, a, b, c)
-
--- statements have no tokens but those of each
-body_owns : (body : List Stmt) → own_tokens (ABody body) ≡ []
-body_owns [] = refl
-body_owns (x ∷ xs) = body_owns xs
-
--- the statements of a function are in the text if it is
-pub body_in_text : (n : Node) (ns : List Node) (body : List Stmt) → parts n ≡ ns ++ parts (ABody body) → IsInText n → IsInText (ABody body)
-body_in_text n ns body e h =
-    let front = own_tokens n ++ flat_map tokens_in ns in
-    let t : tokens_in n ≡ front ++ tokens_in (ABody body) =
-    tokens_are n ∙ ap (λ ps. own_tokens n ++ flat_map tokens_in ps) e ∙ ap (λ ts. own_tokens n ++ ts) (flat_map-append tokens_in ns (parts (ABody body)))
-    ∙ sym (append_assoc (own_tokens n) (flat_map tokens_in ns) (flat_map tokens_in (parts (ABody body))))
-    ∙ ap (λ ts. front ++ ts) (sym (tokens_are (ABody body) ∙ ap (λ os. os ++ flat_map tokens_in (parts (ABody body))) (body_owns body))) in
-    let few = h.few in
-    let l = ap (λ (us : List Token). length us) t ∙ length-append front (tokens_in (ABody body)) in
-    record {
-      few = omega (arith, few, l);
-      each = each_back IsOfText front (tokens_in (ABody body)) (subst (AllByRecursion IsOfText) t h.each);
-      once = λ s. (let o = h.once s in let a = ap (at_start s) t ∙ counts_both (λ (u : Token). u.start == s) front (tokens_in (ABody body)) in omega (arith, o, a));
-    }

@@ -1,23 +1,18 @@
-use Rattle.std.proofs.Common.{rules, ◌≡◌, ◌≤◌, ◌<◌, ◌+◌, ◌-◌, true, ℕ, ◌*◌, length, ◌/◌, ◌%◌, Bool, false, nat_eq, nat_lt, List, [], ◌∷◌, ◌++◌, slice_index_or, slice_set, bit_and, bit_or, Fits, w8, w32, w64, Bor, MutBor}
-use Rattle.js_parser.specs.Nodes.{Knot, IsListRank, is_level, ReadsExpr, ReadsOperand, ReadsOperands}
+use Rattle.std.proofs.Common.{inl, refl}
+use Rattle.js_parser.proofs.JoinLemmas.{joined_read, joined_view}
+use Rattle.js_parser.proofs.LeadLemmas.{first_fails}
+use Rattle.js_parser.proofs.PlaceLemmas.{passes_none}
+use Rattle.js_parser.proofs.ReadLemmas.{failed}
 use Rattle.js_parser.proofs.grammar.Grammar.comma.Goals as goal
 
--- src/expressions.rt:47:21
 pub returns-in_err-first : goal.returns-in_err-first
-returns-in_err-first g c = ?
+returns-in_err-first g c = record {
+  reads = failed _ _ _ _ _ _ _ _ (passes_none _) c.in_err-first.ensures.reads.moves
+      (λ x rest r at s. first_fails _ _ _ x rest (joined_view 0 _ (inl refl) _ x rest r at s) _ _ c.in_err-first.ensures.reads) c.from_residual.ensures.1;
+}
 
--- src/expressions.rt:49:13
-pub returns-then-next_strength-ne1 : goal.returns-then-next_strength-ne1
-returns-then-next_strength-ne1 g c = ?
+pub joined-requires : goal.joined-requires
+joined-requires g c = record { knot = c.requires.knot; some = c.requires.some; rank = inl refl; first = c.in_ok-first.ensures.reads.found.1 }
 
--- src/expressions.rt:51:22
-pub returns-in_err-others : goal.returns-in_err-others
-returns-in_err-others g c = ?
-
--- src/expressions.rt:57:9
-pub value-requires : goal.value-requires
-value-requires g c = ?
-
--- src/expressions.rt:42:5
 pub returns : goal.returns
-returns g c = ?
+returns g c = record { reads = joined_read 0 _ (inl refl) _ _ _ _ _ c.in_ok-first.ensures.reads c.joined.ensures.reads }

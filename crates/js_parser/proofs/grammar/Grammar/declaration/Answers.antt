@@ -41,8 +41,8 @@ returns g c = record {
   reads = record {
     found = (
       λ rest r.
-          subst (λ (f : Function). Reads _ (stmt_line (made.Fun f) rest)) (sym c.in_ok-function.ensures)
-          (fun_made _ c.in_ok-node.field-0.node rest (sym c.is_named.ensures ∙ c.if-not-is_named.false) (c.in_ok-node.ensures.reads.found.0 rest r)),
+          subst (λ (f : Function). Reads c.args.reader.now (stmt_line (made.Fun f) rest)) (sym c.in_ok-function.ensures)
+          (fun_made c.args.reader.now c.in_ok-node.field-0.node rest (sym c.is_named.ensures ∙ c.if-not-is_named.false) (c.in_ok-node.ensures.reads.found.0 rest r)),
       let w = c.in_ok-node.ensures.reads.found.1 in
           let h = fun_tall c.in_ok-node.field-0.node in
           let e = ap (λ (f : Function). (spelling.stmt (made.Fun f)).height) c.in_ok-function.ensures in

@@ -8,8 +8,9 @@ use Rattle.js_tree.specs.declared.lists.Tail.TheVariants as tail
 use Rattle.js_tree.specs.declared.token.Token.{Token}
 use Rattle.js_tree.specs.declared.token_kind.TokenKind.TheVariants as kinds
 use Rattle.js_tree.specs.declared.tree.Expr.{Expr}
+use Rattle.js_tokens.specs.Pieces.{Reads}
+use Rattle.js_parser.proofs.BeginLemmas.{with_mark}
 use Rattle.js_parser.proofs.ExprLemmas.{value_of, value_at}
-use Rattle.js_parser.proofs.MadeLemmas.{mark_read}
 use Rattle.js_parser.proofs.ParenLemmas.{stops_mark}
 use Rattle.js_parser.proofs.PlaceLemmas.{passes_none, passes_on}
 use Rattle.js_parser.proofs.ReadLemmas.{want, failed}
@@ -53,9 +54,9 @@ returns-in_err-close-clause-reads g c =
 pub returns-clause-reads : goal.returns-clause-reads
 returns-clause-reads g c = record {
   found = (
-    λ rest r. mark_read _ _ _ kinds.LeftBracket _ c.in_ok-open.ensures.found.0 c.in_ok-open.ensures.found.1
+    λ rest r. with_mark kinds.LeftBracket _ _ _ _ c.in_ok-open.ensures.found.0 c.in_ok-open.ensures.found.1
         (c.in_ok-value.ensures.reads.found.0 (mark pieces kinds.RightBracket c.in_ok-close.close rest)
-        (mark_read _ _ _ kinds.RightBracket rest c.in_ok-close.ensures.found.0 c.in_ok-close.ensures.found.1 r)),
+        (with_mark kinds.RightBracket _ _ _ rest c.in_ok-close.ensures.found.0 c.in_ok-close.ensures.found.1 r)),
     let w = c.in_ok-value.ensures.reads.found.1 in record { stands = w.stands; height = omega (arith, w.height); fits = w.fits },
   );
   only = λ x rest r at s.

@@ -3,7 +3,9 @@ use Rattle.js_tree.specs.Operators.{is_member_name}
 use Rattle.js_tree.specs.Pieces.{Tok}
 use Rattle.js_tree.specs.declared.lists.Tail.TheVariants as tail
 use Rattle.js_tree.specs.declared.token_kind.TokenKind.TheVariants as kinds
-use Rattle.js_parser.proofs.MadeLemmas.{mark_read}
+use Rattle.js_tree.specs.declared.tree.Expr.{Expr}
+use Rattle.js_tokens.specs.Pieces.{Reads}
+use Rattle.js_parser.proofs.BeginLemmas.{with_mark}
 use Rattle.js_parser.proofs.PlaceLemmas.{passes_none, passes_on}
 use Rattle.js_parser.proofs.ReadLemmas.{want, failed}
 use Rattle.js_parser.proofs.TailLemmas.{line_of, as_member, member_plain, named_here, no_member, tail_begins}
@@ -36,7 +38,7 @@ returns-in_err-name-clause-reads g c =
 pub returns-clause-reads : goal.returns-clause-reads
 returns-clause-reads g c = record {
   found = (
-    λ rest r. mark_read _ _ _ kinds.Dot (Tok c.in_ok-name.name is_member_name ∷ rest) c.in_ok-dot.ensures.found.0 c.in_ok-dot.ensures.found.1
+    λ rest r. with_mark kinds.Dot _ _ _ (Tok c.in_ok-name.name is_member_name ∷ rest) c.in_ok-dot.ensures.found.0 c.in_ok-dot.ensures.found.1
         (named_here _ _ _ c.in_ok-name.name rest c.kind.ensures (sym c.is_member_name.ensures ∙ c.if-not-is_member_name.false) c.in_ok-name.ensures.found.0 c.in_ok-name.ensures.found.1 r),
     record { stands = refl; height = refl; fits = omega arith },
   );

@@ -6,9 +6,10 @@ use Rattle.js_tree.specs.declared.token_kind.TokenKind.TheVariants as kinds
 use Rattle.js_tree.specs.declared.tree.Expr.TheOpen.{Expr-F}
 use Rattle.js_tree.specs.declared.tree.Expr.TheVariants.{rolls-Paren}
 use Rattle.js_tree.specs.declared.tree.Expr.{roll-Expr}
+use Rattle.js_parser.proofs.BeginLemmas.{with_mark}
 use Rattle.js_parser.proofs.ExprLemmas.{value_of, made, node_of}
 use Rattle.js_parser.proofs.HeadLemmas.{of_sort, at_line, high}
-use Rattle.js_parser.proofs.MadeLemmas.{seen_at, read_at, mark_read}
+use Rattle.js_parser.proofs.MadeLemmas.{seen_at, read_at}
 use Rattle.js_parser.proofs.ParenLemmas.{inner_at, paren_stops, sound_at}
 use Rattle.js_parser.proofs.PlaceLemmas.{passes_none, passes_on}
 use Rattle.js_parser.proofs.ReadLemmas.{want, failed}
@@ -52,9 +53,9 @@ pub returns : goal.returns
 returns g c = record {
   reads = made 20 _ 18 _ _ _ _ c.value.ensures.made (omega arith)
     (read_at (Expr-F.«Expr::Paren» c.in_ok-open.open c.in_ok-inner.inner.node c.in_ok-close.close) _ (rolls-Paren c.in_ok-open.open c.in_ok-inner.inner.node c.in_ok-close.close) _ _
-    (λ rest r. mark_read _ _ _ kinds.LeftParen _ c.in_ok-open.ensures.found.0 c.in_ok-open.ensures.found.1
+    (λ rest r. with_mark kinds.LeftParen _ _ _ _ c.in_ok-open.ensures.found.0 c.in_ok-open.ensures.found.1
         (c.in_ok-inner.ensures.reads.found.0 (mark pieces kinds.RightParen c.in_ok-close.close rest)
-        (mark_read _ _ _ kinds.RightParen rest c.in_ok-close.ensures.found.0 c.in_ok-close.ensures.found.1 r))))
+        (with_mark kinds.RightParen _ _ _ rest c.in_ok-close.ensures.found.0 c.in_ok-close.ensures.found.1 r))))
     (passes_on _ _ _ (passes_on _ _ _ c.in_ok-open.ensures.moves c.in_ok-inner.ensures.reads.moves) c.in_ok-close.ensures.moves)
     (omega (arith, c.in_ok-open.ensures.shorter, c.in_ok-inner.ensures.reads.shorter, c.in_ok-close.ensures.shorter))
     (λ x rest r at s.
