@@ -25,7 +25,7 @@ use Rattle.js_tree.specs.Spelling.Expressions.{expr_musts, expr_rank, expr_row}
 use Rattle.js_tree.specs.Spelling.Nodes.{Seen, UNARY, UPDATE, CHAIN, NEW, MADE, binary_rank, musts, pieces, unmarked, stands, is_empty, passes, all_within, is_named, seen_line}
 use Rattle.js_tree.specs.Spelling.Rows.{each_of, tail_row, template_parts}
 use Rattle.js_tree.specs.TokenKinds.{is}
-use Rattle.js_tree.proofs.Folds.{map_maybe, map_listed, map_element, map_bracket, map_tail, layer-Chain}
+use Rattle.js_tree.proofs.Folds.{map_maybe, map_listed, map_bracket, map_tail, layer-Chain}
 use Rattle.js_tree.proofs.KindLemmas.{every, is_itself, is_same}
 use Rattle.js_tree.proofs.RowLemmas.{tails_map}
 use Rattle.js_tree.proofs.SpellingLemmas.{at_expr, at-Chain, expr_layer, seen_lines}
@@ -33,11 +33,11 @@ use Rattle.js_tokens.specs.Ahead.{IsNextKind, reads}
 use Rattle.js_tokens.specs.Pieces.{Read, Reads}
 use Rattle.js_tokens.specs.declared.goal.Goal.TheVariants as goal
 use Rattle.js_parser.proofs.BeginLemmas.{next_of}
-use Rattle.js_parser.proofs.BracketLemmas.{bracket_tall}
+use Rattle.js_parser.proofs.BracketLemmas.{bracket_tall, within_seen}
 use Rattle.js_parser.proofs.ExprLemmas.{node_of, value_of, value_at, value_is}
 use Rattle.js_parser.proofs.HeadLemmas.{at_line}
 use Rattle.js_parser.proofs.MadeLemmas.{out_of, read_at}
-use Rattle.js_parser.proofs.TailLemmas.{begins, tail_begins}
+use Rattle.js_parser.proofs.TailLemmas.{as_call, begins, tail_begins}
 use Rattle.js_parser.proofs.TokenLemmas.{implies}
 use Rattle.js_parser.specs.Following.{NoKind, Stops, begins_tail, rest_level, strength}
 use Rattle.js_parser.specs.Nodes.{IsSeen, TailsAt, ValueAt, ValueStops, argument_stands, expr_line, higher, may_call, substitution_stands, tail_height, tail_stands, tails_line, value_line}
@@ -51,21 +51,14 @@ use Rattle.js_parser.specs.declared.tall.Value.{Value}
 pub parts_seen : (xs : List (Listed Expr)) → list_all (λ x. stands 0 x.item) (map (map_listed expr) xs) ≡ list_all substitution_stands xs
 parts_seen xs = list_all-map (λ (x : Listed Seen). stands 0 x.item) (map_listed expr) xs
 
-passes_map : {X Y : Type 0} (test : Y → Bool) (f : X → Y) (o : Option X) → passes test (map_maybe f o) ≡ passes (λ x. test (f x)) o
-passes_map test f None = refl
-passes_map test f (Some x) = refl
-
-arguments_seen : (b : Bracket Expr) → arguments_fit (map_bracket expr b) ≡ all_within argument_stands b
-arguments_seen b = λ i. list_all-map (λ (x : Listed (Element Seen)). stands 1 x.item.value) (map_listed (map_element expr)) b.front i && passes_map (λ (x : Element Seen). stands 1 x.value) (map_element expr) b.last i
-
 pub args_seen : (o : Option (Bracket Expr)) → passes arguments_fit (map_maybe (map_bracket expr) o) ≡ passes (all_within argument_stands) o
 args_seen None = refl
-args_seen (Some b) = arguments_seen b
+args_seen (Some b) = within_seen (λ (x : Element Seen). stands 1 x.value) expr b
 
 tail_seen : (t : Tail Expr) → tail_fits (map_tail expr t) ≡ tail_stands t
 tail_seen (tail.Member dot name) = refl
 tail_seen (tail.Index begin value end) = refl
-tail_seen (tail.Call b) = arguments_seen b
+tail_seen (tail.Call b) = within_seen (λ (x : Element Seen). stands 1 x.value) expr b
 tail_seen (tail.Template t) = parts_seen t.parts
 
 pub tails_seen : (ts : List (Tail Expr)) → list_all tail_fits (map (map_tail expr) ts) ≡ list_all tail_stands ts
@@ -183,14 +176,7 @@ stops_made rank rest more = subst (λ (b : Bool). Stops (if b then CHAIN else NE
 -- arguments follow
 begins_call : (p : Place) (k : TokenKind) → IsNextKind p k → is kinds.LeftParen k ≡ true → (ts : List (Tail Expr)) (rest : List Piece) → is_empty ts ≡ false → Reads p (tails_line ts rest) → calls ts ≡ true
 begins_call p k next paren [] rest some r = absurd (true≢false some)
-begins_call p k next paren (t ∷ ts) rest some r = by_tail t (subst (begins t) (is_same kinds.LeftParen k paren) (tail_begins p t (tails_line ts rest) k next r))
-  where
-    by_tail : (t : Tail Expr) → begins t kinds.LeftParen → is_call t ≡ true
-    by_tail (tail.Call b) h = refl
-    by_tail (tail.Member dot name) h = absurd (let e : kinds.LeftParen ≡ kinds.Dot = h in cc)
-    by_tail (tail.Index begin value end) h = absurd (let e : kinds.LeftParen ≡ kinds.LeftBracket = h in cc)
-    by_tail (tail.Template t) (inl h) = absurd (let e : kinds.LeftParen ≡ kinds.TemplateWhole = h in cc)
-    by_tail (tail.Template t) (inr h) = absurd (let e : kinds.LeftParen ≡ kinds.TemplateHead = h in cc)
+begins_call p k next paren (t ∷ ts) rest some r = ap is_call (as_call t (subst (begins t) (is_same kinds.LeftParen k paren) (tail_begins p t (tails_line ts rest) k next r))).1
 
 -- the first of the tails is arguments, so they follow
 call_begins : (p : Place) (k : TokenKind) → IsNextKind p k → (ts : List (Tail Expr)) (rest : List Piece) → Reads p (tails_line ts rest) → calls ts ≡ true → is kinds.LeftParen k ≡ true
