@@ -1,5 +1,6 @@
 -- How items by commas in brackets are read, item by item.
 use Rattle.std.proofs.Common.{◌≡◌, ℕ, ◌≤◌, max, Bool, true, false, ◌&&◌, not, List, [], ◌∷◌, ◌++◌, Option, Some, None, is_some, refl, sym, ap, ◌∙◌, subst, arith, append-nil, append_assoc, true≢false}
+use Rattle.std.proofs.lemmas.List.Folds.{list_all-map}
 use Rattle.std.specs.List.{list_all}
 use Rattle.js_tree.specs.declared.lists.Bracket.{Bracket}
 use Rattle.js_tree.specs.declared.lists.Element.{Element}
@@ -12,6 +13,7 @@ use Rattle.js_tree.specs.Spelling.{tallest_of}
 use Rattle.js_tree.specs.Spelling.Nodes.{all_within, passes, pieces, unmarked}
 use Rattle.js_tree.specs.Spelling.Rows.{bracket_row, each_of, element_row, listed_row, may_mark, maybe}
 use Rattle.js_tree.specs.TokenKinds.{is}
+use Rattle.js_tree.proofs.Folds.{map_bracket, map_element, map_listed, map_maybe}
 use Rattle.js_tokens.specs.Pieces.{Reads, Read, Passes}
 use Rattle.js_tokens.specs.declared.fault.TokenFault.{TokenFault}
 use Rattle.js_parser.proofs.BeginLemmas.{no_kind_before}
@@ -20,6 +22,16 @@ use Rattle.js_parser.proofs.PlaceLemmas.{passes_none, passes_on}
 use Rattle.js_parser.proofs.ReadLemmas.{IsWant}
 use Rattle.js_parser.specs.Brackets.{Puts}
 use Rattle.js_parser.specs.Nodes.{NoMark}
+
+-- WHAT IS SEEN
+
+passes_seen : {X Y : Type 0} (test : Y → Bool) (f : X → Y) (o : Option X) → passes test (map_maybe f o) ≡ passes (λ x. test (f x)) o
+passes_seen test f None = refl
+passes_seen test f (Some x) = refl
+
+-- what is asked of all items, where each is seen
+pub within_seen : {X Y : Type 0} (test : Element Y → Bool) (f : X → Y) (b : Bracket X) → all_within test (map_bracket f b) ≡ all_within (λ x. test (map_element f x)) b
+within_seen test f b = λ i. list_all-map (λ (x : Listed (Element _)). test x.item) (map_listed (map_element f)) b.front i && passes_seen test (map_element f) b.last i
 
 -- HEIGHTS
 

@@ -1,8 +1,7 @@
--- Chains and what `new` makes: what is asked of their tails and arguments, their heights, and what stands behind their heads.
+-- Chains: what is asked of tails and arguments, their heights, and what stands behind a head.
 use Rattle.std.proofs.Common.{◌≡◌, ◌⊎◌, inl, inr, ℕ, ◌+◌, ◌-◌, ◌<◌, ◌≤◌, ◌==◌, max, Bool, true, false, ◌&&◌, ◌||◌, not, List, [], ◌∷◌, map, refl, sym, ap, ◌∙◌, subst, arith, true≢false, if◌then◌else◌}
 use Rattle.std.specs.Prelude.{nat_le, codes, Option, Some, None, is_some}
 use Rattle.std.specs.List.{list_all, list_any}
-use Rattle.std.specs.Str.{bytes_eq}
 use Rattle.std.proofs.lemmas.Bool.{and_parts, false_from_ne_true, le-leb, leb-true, not-true, or_parts}
 use Rattle.std.proofs.lemmas.Bool.Decides.{nat_tests}
 use Rattle.std.proofs.lemmas.List.Folds.{list_all-map}
@@ -12,7 +11,6 @@ use Rattle.js_tree.specs.declared.lists.Listed.{Listed}
 use Rattle.js_tree.specs.declared.lists.Tail.{Tail}
 use Rattle.js_tree.specs.declared.lists.Tail.TheVariants as tail
 use Rattle.js_tree.specs.declared.lists.Template.{Template}
-use Rattle.js_tree.specs.declared.token.Token.{Token}
 use Rattle.js_tree.specs.declared.token_kind.TokenKind.{TokenKind}
 use Rattle.js_tree.specs.declared.token_kind.TokenKind.TheVariants as kinds
 use Rattle.js_tree.specs.declared.tree.Expr.{Expr, out-Expr, roll-Expr}
@@ -20,29 +18,29 @@ use Rattle.js_tree.specs.declared.tree.Expr.TheOpen.{Expr-F}
 use Rattle.js_tree.specs.Folds.{ExprLayer}
 use Rattle.js_tree.specs.Lexing.{Place}
 use Rattle.js_tree.specs.Operators.{is_update}
-use Rattle.js_tree.specs.Pieces.{Piece, Tok, kind as kind_of}
+use Rattle.js_tree.specs.Pieces.{Piece, kind as kind_of}
 use Rattle.js_tree.specs.Spelling.{expr, function, pattern, stmt, slot, tallest_of}
 use Rattle.js_tree.specs.Spelling.Chains.{arguments_fit, tail_fits, is_call, calls}
 use Rattle.js_tree.specs.Spelling.Expressions.{expr_musts, expr_rank, expr_row}
 use Rattle.js_tree.specs.Spelling.Nodes.{Seen, UNARY, UPDATE, CHAIN, NEW, MADE, binary_rank, musts, pieces, unmarked, stands, is_empty, passes, all_within, is_named, seen_line}
-use Rattle.js_tree.specs.Spelling.Rows.{bracket_row, each_of, maybe, tail_row, template_parts}
+use Rattle.js_tree.specs.Spelling.Rows.{each_of, tail_row, template_parts}
 use Rattle.js_tree.specs.TokenKinds.{is}
-use Rattle.js_tree.proofs.Folds.{map_maybe, map_listed, map_element, map_bracket, map_tail, layer-Chain, layer-New}
+use Rattle.js_tree.proofs.Folds.{map_maybe, map_listed, map_bracket, map_tail, layer-Chain}
 use Rattle.js_tree.proofs.KindLemmas.{every, is_itself, is_same}
-use Rattle.js_tree.proofs.RowLemmas.{args_map, tails_map}
-use Rattle.js_tree.proofs.SpellingLemmas.{at_expr, at-Chain, at-New, expr_layer, seen_lines}
+use Rattle.js_tree.proofs.RowLemmas.{tails_map}
+use Rattle.js_tree.proofs.SpellingLemmas.{at_expr, at-Chain, expr_layer, seen_lines}
 use Rattle.js_tokens.specs.Ahead.{IsNextKind, reads}
 use Rattle.js_tokens.specs.Pieces.{Read, Reads}
 use Rattle.js_tokens.specs.declared.goal.Goal.TheVariants as goal
-use Rattle.js_parser.proofs.BeginLemmas.{begins_expr, expr_told, next_of, no_kind_before, other_told}
-use Rattle.js_parser.proofs.BracketLemmas.{bracket_tall}
+use Rattle.js_parser.proofs.BeginLemmas.{next_of}
+use Rattle.js_parser.proofs.BracketLemmas.{bracket_tall, within_seen}
 use Rattle.js_parser.proofs.ExprLemmas.{node_of, value_of, value_at, value_is}
-use Rattle.js_parser.proofs.HeadLemmas.{Head, IsName, IsThis, IsLiteral, IsTemplate, IsParen, IsFun, IsNew, IsNewTarget, at_line, head_of, sort_of, sort_told}
+use Rattle.js_parser.proofs.HeadLemmas.{at_line}
 use Rattle.js_parser.proofs.MadeLemmas.{out_of, read_at}
-use Rattle.js_parser.proofs.TailLemmas.{begins, tail_begins}
+use Rattle.js_parser.proofs.TailLemmas.{as_call, begins, tail_begins}
 use Rattle.js_parser.proofs.TokenLemmas.{implies}
-use Rattle.js_parser.specs.Following.{NoKind, Stops, begins_tail, primary_of, rest_level, strength}
-use Rattle.js_parser.specs.Nodes.{IsSeen, MaybeArgumentsAt, NoArguments, TailsAt, ValueAt, ValueStops, argument_stands, arguments_line, expr_line, higher, may_call, substitution_stands, tail_height, tail_stands, tails_line, value_line}
+use Rattle.js_parser.specs.Following.{NoKind, Stops, begins_tail, rest_level, strength}
+use Rattle.js_parser.specs.Nodes.{IsSeen, TailsAt, ValueAt, ValueStops, argument_stands, expr_line, higher, may_call, substitution_stands, tail_height, tail_stands, tails_line, value_line}
 use Rattle.js_parser.specs.declared.kinds.Primary.TheVariants as sorts
 use Rattle.js_parser.specs.declared.tall.Tall.{Tall}
 use Rattle.js_parser.specs.declared.tall.Value.{Value}
@@ -53,28 +51,21 @@ use Rattle.js_parser.specs.declared.tall.Value.{Value}
 pub parts_seen : (xs : List (Listed Expr)) → list_all (λ x. stands 0 x.item) (map (map_listed expr) xs) ≡ list_all substitution_stands xs
 parts_seen xs = list_all-map (λ (x : Listed Seen). stands 0 x.item) (map_listed expr) xs
 
-passes_map : {X Y : Type 0} (test : Y → Bool) (f : X → Y) (o : Option X) → passes test (map_maybe f o) ≡ passes (λ x. test (f x)) o
-passes_map test f None = refl
-passes_map test f (Some x) = refl
-
-arguments_seen : (b : Bracket Expr) → arguments_fit (map_bracket expr b) ≡ all_within argument_stands b
-arguments_seen b = λ i. list_all-map (λ (x : Listed (Element Seen)). stands 1 x.item.value) (map_listed (map_element expr)) b.front i && passes_map (λ (x : Element Seen). stands 1 x.value) (map_element expr) b.last i
-
-args_seen : (o : Option (Bracket Expr)) → passes arguments_fit (map_maybe (map_bracket expr) o) ≡ passes (all_within argument_stands) o
+pub args_seen : (o : Option (Bracket Expr)) → passes arguments_fit (map_maybe (map_bracket expr) o) ≡ passes (all_within argument_stands) o
 args_seen None = refl
-args_seen (Some b) = arguments_seen b
+args_seen (Some b) = within_seen (λ (x : Element Seen). stands 1 x.value) expr b
 
 tail_seen : (t : Tail Expr) → tail_fits (map_tail expr t) ≡ tail_stands t
 tail_seen (tail.Member dot name) = refl
 tail_seen (tail.Index begin value end) = refl
-tail_seen (tail.Call b) = arguments_seen b
+tail_seen (tail.Call b) = within_seen (λ (x : Element Seen). stands 1 x.value) expr b
 tail_seen (tail.Template t) = parts_seen t.parts
 
-tails_seen : (ts : List (Tail Expr)) → list_all tail_fits (map (map_tail expr) ts) ≡ list_all tail_stands ts
+pub tails_seen : (ts : List (Tail Expr)) → list_all tail_fits (map (map_tail expr) ts) ≡ list_all tail_stands ts
 tails_seen [] = refl
 tails_seen (t ∷ ts) = λ i. tail_seen t i && tails_seen ts i
 
-empty_seen : (ts : List (Tail Expr)) → is_empty (map (map_tail expr) ts) ≡ is_empty ts
+pub empty_seen : (ts : List (Tail Expr)) → is_empty (map (map_tail expr) ts) ≡ is_empty ts
 empty_seen [] = refl
 empty_seen (t ∷ ts) = refl
 
@@ -88,11 +79,11 @@ calls_seen : (ts : List (Tail Expr)) → calls (map (map_tail expr) ts) ≡ call
 calls_seen [] = refl
 calls_seen (t ∷ ts) = call_seen t
 
-any_seen : (ts : List (Tail Expr)) → list_any is_call (map (map_tail expr) ts) ≡ list_any is_call ts
+pub any_seen : (ts : List (Tail Expr)) → list_any is_call (map (map_tail expr) ts) ≡ list_any is_call ts
 any_seen [] = refl
 any_seen (t ∷ ts) = λ i. call_seen t i || any_seen ts i
 
-some_seen : (o : Option (Bracket Expr)) → is_some (map_maybe (map_bracket expr) o) ≡ is_some o
+pub some_seen : (o : Option (Bracket Expr)) → is_some (map_maybe (map_bracket expr) o) ≡ is_some o
 some_seen None = refl
 some_seen (Some b) = refl
 
@@ -142,7 +133,7 @@ strong_check : Bool → TokenKind → Bool
 strong_check nl k = nat_le (strength k nl) 18
 
 -- nothing goes on with more strength than a tail
-pub stops_new : (rest : List Piece) → Stops NEW rest
+stops_new : (rest : List Piece) → Stops NEW rest
 unfolding strong_check
 stops_new rest m r t n a h = by_line t.nl_before
   where
@@ -164,38 +155,31 @@ strong_tail false false k e = leb-true _ _ (implies (begins_tail false k) _ (eve
 pub no_tail : (calls : Bool) (rest : List Piece) → Stops CHAIN rest → NoKind (begins_tail calls) rest
 no_tail calls rest s m r t n a h = false_from_ne_true (begins_tail calls (kind_of t)) (λ e. omega (arith, s m r t n a h, strong_tail calls t.nl_before (kind_of t) e))
 
-no_arguments : (rest : List Piece) → Stops CHAIN rest → NoKind (is kinds.LeftParen) rest
+pub no_arguments : (rest : List Piece) → Stops CHAIN rest → NoKind (is kinds.LeftParen) rest
 no_arguments rest s m r t n a h =
     false_from_ne_true (is kinds.LeftParen (kind_of t)) (λ e. true≢false (sym (ap (begins_tail true) (is_same kinds.LeftParen (kind_of t) e)) ∙ no_tail true rest s m r t n a h))
 
 -- where a chain ends, what is read as the head of a `new` ends too
-stops_head : (rank : ℕ) (rest : List Piece) → Stops CHAIN rest → Stops (rest_level NEW rank) rest
+pub stops_head : (rank : ℕ) (rest : List Piece) → Stops CHAIN rest → Stops (rest_level NEW rank) rest
 stops_head rank rest s = by_test (rank == NEW)
   where
     by_test : (b : Bool) → Stops (if b then CHAIN else NEW) rest
     by_test true = s
     by_test false = stops_new rest
 
-stops_made : (rank : ℕ) (rest : List Piece) → MADE ≤ rank → Stops (rest_level NEW rank) rest
+pub stops_made : (rank : ℕ) (rest : List Piece) → MADE ≤ rank → Stops (rest_level NEW rank) rest
 stops_made rank rest more = subst (λ (b : Bool). Stops (if b then CHAIN else NEW) rest) (sym far) (stops_new rest)
   where
     far : (rank == NEW) ≡ false
     far = grind (arith, nat_tests, more)
 
 -- arguments follow
-pub begins_call : (p : Place) (k : TokenKind) → IsNextKind p k → is kinds.LeftParen k ≡ true → (ts : List (Tail Expr)) (rest : List Piece) → is_empty ts ≡ false → Reads p (tails_line ts rest) → calls ts ≡ true
+begins_call : (p : Place) (k : TokenKind) → IsNextKind p k → is kinds.LeftParen k ≡ true → (ts : List (Tail Expr)) (rest : List Piece) → is_empty ts ≡ false → Reads p (tails_line ts rest) → calls ts ≡ true
 begins_call p k next paren [] rest some r = absurd (true≢false some)
-begins_call p k next paren (t ∷ ts) rest some r = by_tail t (subst (begins t) (is_same kinds.LeftParen k paren) (tail_begins p t (tails_line ts rest) k next r))
-  where
-    by_tail : (t : Tail Expr) → begins t kinds.LeftParen → is_call t ≡ true
-    by_tail (tail.Call b) h = refl
-    by_tail (tail.Member dot name) h = absurd (let e : kinds.LeftParen ≡ kinds.Dot = h in cc)
-    by_tail (tail.Index begin value end) h = absurd (let e : kinds.LeftParen ≡ kinds.LeftBracket = h in cc)
-    by_tail (tail.Template t) (inl h) = absurd (let e : kinds.LeftParen ≡ kinds.TemplateWhole = h in cc)
-    by_tail (tail.Template t) (inr h) = absurd (let e : kinds.LeftParen ≡ kinds.TemplateHead = h in cc)
+begins_call p k next paren (t ∷ ts) rest some r = ap is_call (as_call t (subst (begins t) (is_same kinds.LeftParen k paren) (tail_begins p t (tails_line ts rest) k next r))).1
 
 -- the first of the tails is arguments, so they follow
-pub call_begins : (p : Place) (k : TokenKind) → IsNextKind p k → (ts : List (Tail Expr)) (rest : List Piece) → Reads p (tails_line ts rest) → calls ts ≡ true → is kinds.LeftParen k ≡ true
+call_begins : (p : Place) (k : TokenKind) → IsNextKind p k → (ts : List (Tail Expr)) (rest : List Piece) → Reads p (tails_line ts rest) → calls ts ≡ true → is kinds.LeftParen k ≡ true
 call_begins p k next [] rest r h = absurd (true≢false (sym h))
 call_begins p k next (t ∷ ts) rest r h = by_tail t (tail_begins p t (tails_line ts rest) k next r) h
   where
@@ -210,6 +194,7 @@ pub not_direct : (m : Place) (k : TokenKind) → IsNextKind m k → (named : Boo
 not_direct m k next false ts rest h r = refl
 not_direct m k next true ts rest h r = false_from_ne_true (calls ts) (λ e. true≢false (sym (call_begins m k next ts rest r e) ∙ h))
 
+-- a list that is told not to be empty
 pub not_empty : {X : Type 0} (xs : List X) (b : Bool) → ((xs ≡ []) → b ≡ true) → b ≡ false → is_empty xs ≡ false
 not_empty [] b is e = absurd (true≢false (sym (is refl) ∙ e))
 not_empty (x ∷ xs) b is e = refl
@@ -231,7 +216,6 @@ pub record IsChain (head : Expr) (tails : List (Tail Expr)) (x : Value) : Type 0
   pub made : MADE ≤ (expr head).rank
   pub some : is_empty tails ≡ false
   pub direct : (is_named (codes "eval") (expr head) && calls tails) ≡ false
-  pub height : (expr x.node).height ≡ max (expr head).height (tallest_of tail_height tails) + 1
 
 -- an expression of the level of a chain as a head and tails, none where the head stands alone
 pub record ChainView (room : ℕ) (p : Place) (x : Value) (rest : List Piece) : Type 0 where
@@ -250,8 +234,7 @@ chain_layer head tails = Expr-F.Chain (expr head) (map (map_tail expr) tails)
 
 chain_height : (x : Expr) (head : Expr) (tails : List (Tail Expr)) → out-Expr x ≡ Expr-F.Chain head tails → (expr x).height ≡ max (expr head).height (tallest_of tail_height tails) + 1
 chain_height x head tails e =
-    let h : (expr x).height ≡ max (expr head).height (each_of (tail_row unmarked higher) tails 0) + 1 =
-    ap (λ (u : Seen). u.height) (at-Chain x head tails e) ∙ ap (λ n. max (expr head).height n + 1) (tails_map unmarked (λ (u : Seen) n. max u.height n) expr tails 0) in
+    let h : (expr x).height ≡ max (expr head).height (each_of (tail_row unmarked higher) tails 0) + 1 = ap (λ (u : Seen). u.height) (at-Chain x head tails e) ∙ ap (λ n. max (expr head).height n + 1) (tails_map unmarked (λ (u : Seen) n. max u.height n) expr tails 0) in
     omega (arith, h, tails_tall tails 0)
 
 pub chain_view : (room : ℕ) (p : Place) (x : Value) (rest : List Piece) → ValueAt CHAIN room x → Stops CHAIN rest → Reads p (value_line x rest) → ChainView room p x rest
@@ -277,8 +260,7 @@ chain_view room p x rest at s r = by_layer (out-Expr x.node) refl
 
     chain : (head : Expr) (tails : List (Tail Expr)) → out-Expr x.node ≡ Expr-F.Chain head tails → ChainView room p x rest
     chain head tails e =
-        let m : Reads p (musts (expr_musts (chain_layer head tails)) (expr_row seen_lines (Expr-F.Chain head tails) rest)) =
-        subst (λ (l : Expr-F Seen Seen Seen Seen Seen). Reads p (musts (expr_musts l) (expr_row seen_lines (Expr-F.Chain head tails) rest))) (layer-Chain expr function pattern stmt slot head tails) (at_line p x.node rest (Expr-F.Chain head tails) e r) in
+        let m : Reads p (musts (expr_musts (chain_layer head tails)) (expr_row seen_lines (Expr-F.Chain head tails) rest)) = subst (λ (l : Expr-F Seen Seen Seen Seen Seen). Reads p (musts (expr_musts l) (expr_row seen_lines (Expr-F.Chain head tails) rest))) (layer-Chain expr function pattern stmt slot head tails) (at_line p x.node rest (Expr-F.Chain head tails) e r) in
         let h = chain_height x.node head tails e in
         let good = and_parts _ _ m.0 in
         let more = leb-true _ _ good.1 in
@@ -295,7 +277,6 @@ chain_view room p x rest at s r = by_layer (out-Expr x.node) refl
             made = more;
             some = sym (empty_seen tails) ∙ not-true _ m.1.0;
             direct = ap (λ b. is_named (codes "eval") (expr head) && b) (sym (calls_seen tails)) ∙ not-true _ m.1.1.0;
-            height = h;
           });
         }
 
@@ -386,10 +367,12 @@ pub alone_low : (head : Expr) (tails : List (Tail Expr)) (x : Value) → (expr h
 alone_low head tails x less (inl a) = a
 alone_low head tails x less (inr b) = absurd (omega (arith, less, b.made))
 
+-- so does one without tails
 pub alone_empty : (head : Expr) (tails : List (Tail Expr)) (x : Value) → is_empty tails ≡ true → IsAlone head tails x ⊎ IsChain head tails x → IsAlone head tails x
 alone_empty head tails x none (inl a) = a
 alone_empty head tails x none (inr b) = absurd (true≢false (sym none ∙ b.some))
 
+-- with tails it is a chain
 pub chain_some : (head : Expr) (tails : List (Tail Expr)) (x : Value) → is_empty tails ≡ false → IsAlone head tails x ⊎ IsChain head tails x → IsChain head tails x
 chain_some head tails x some (inl a) = absurd (true≢false (sym (ap is_empty a.none) ∙ some))
 chain_some head tails x some (inr b) = b
@@ -402,204 +385,3 @@ eval_called m k next paren head tails x rest named ends r (inl a) =
     true≢false (sym (ap (begins_tail true) t.3) ∙ ends m (subst (λ (ts : List (Tail Expr)). Reads m (tails_line ts rest)) a.none r) t.0 t.1 t.2 (ap (reads goal.Operator) t.3))
 eval_called m k next paren head tails x rest named ends r (inr b) =
     true≢false (sym (λ i. named i && begins_call m k next paren tails rest b.some r i) ∙ b.direct)
-
--- WHAT `new` MAKES
-
--- arguments with their height
-abbrev pub tall_args : Option (Bracket Expr) → Tall (Option (Bracket Expr))
-tall_args o = record { node = o; height = maybe (bracket_row unmarked higher) o 0 }
-
--- what stands behind the head
-abbrev pub behind_head : List (Tail Expr) → Option (Bracket Expr) → List Piece → List Piece
-behind_head tails args rest = tails_line tails (maybe arguments_line args rest)
-
--- `new.target`
-pub record TargetView (p : Place) (x : Expr) (rest : List Piece) : Type 0 where
-  pub word : Token
-  pub dot : Token
-  pub target : Token
-  pub layer : out-Expr x ≡ Expr-F.NewTarget word dot target
-  pub text : bytes_eq target.text (codes "target") ≡ true
-  pub read : Reads p (Tok word (is kinds.New) ∷ Tok dot (is kinds.Dot) ∷ Tok target (is kinds.Name) ∷ rest)
-
--- `new`, a head, tails, and arguments where there are any
-pub record NewView (room : ℕ) (p : Place) (x : Value) (rest : List Piece) : Type 0 where
-  pub word : Token
-  pub head : Expr
-  pub tails : List (Tail Expr)
-  pub args : Option (Bracket Expr)
-  pub layer : out-Expr x.node ≡ Expr-F.New word head tails args
-  pub read : Reads p (Tok word (is kinds.New) ∷ expr_line head (behind_head tails args rest))
-  pub at : ValueAt NEW (room - 1) (value_of head)
-  pub stops : ValueStops NEW (value_of head) (behind_head tails args rest)
-  pub alone : (MADE ≤ (expr head).rank) ⊎ (tails ≡ []) × (args ≡ None)
-  pub tails_at : TailsAt false (room - 1) (tall_tails tails)
-  pub tails_end : NoKind (begins_tail false) (maybe arguments_line args rest)
-  pub args_at : MaybeArgumentsAt (room - 1) (tall_args args)
-  pub args_end : NoArguments (tall_args args) rest
-
-pub data MadeView (room : ℕ) (p : Place) (x : Value) (rest : List Piece) : Type 0 where
-  ATarget : TargetView p x.node rest → MadeView room p x rest
-  AMade : NewView room p x rest → MadeView room p x rest
-
-abbrev new_layer : Token → Expr → List (Tail Expr) → Option (Bracket Expr) → Expr-F Seen Seen Seen Seen Seen
-new_layer word head tails args = Expr-F.New word (expr head) (map (map_tail expr) tails) (map_maybe (map_bracket expr) args)
-
-new_height : (x : Expr) (word : Token) (head : Expr) (tails : List (Tail Expr)) (args : Option (Bracket Expr)) → out-Expr x ≡ Expr-F.New word head tails args
-    → (expr x).height ≡ max (expr head).height (max (tallest_of tail_height tails) (maybe (bracket_row unmarked higher) args 0)) + 1
-new_height x word head tails args e =
-    let put : Seen → ℕ → ℕ = λ u n. max u.height n in
-    let inside : ℕ = maybe (bracket_row unmarked higher) args 0 in
-    let h : (expr x).height ≡ max (expr head).height (each_of (tail_row unmarked higher) tails inside) + 1 =
-    ap (λ (u : Seen). u.height) (at-New x word head tails args e)
-    ∙ ap (λ n. max (expr head).height n + 1) (ap (each_of (tail_row unmarked put) (map (map_tail expr) tails)) (args_map unmarked put expr args 0) ∙ tails_map unmarked put expr tails inside) in
-    omega (arith, h, tails_tall tails inside)
-
-new_rank : (x : Expr) (word : Token) (head : Expr) (tails : List (Tail Expr)) (args : Option (Bracket Expr)) → out-Expr x ≡ Expr-F.New word head tails args
-    → (expr x).rank ≡ (if is_some args then MADE else NEW)
-new_rank x word head tails args e = ap (λ (u : Seen). u.rank) (at-New x word head tails args e) ∙ ap (λ b. if b then MADE else NEW) (some_seen args)
-
-new_view : (room : ℕ) (p : Place) (x : Value) (rest : List Piece) (word : Token) (head : Expr) (tails : List (Tail Expr)) (args : Option (Bracket Expr)) → out-Expr x.node ≡ Expr-F.New word head tails args
-    → ValueAt NEW room x → ValueStops NEW x rest → Reads p (value_line x rest) → NewView room p x rest
-new_view room p x rest word head tails args e at s r =
-    let m : Reads p (musts (expr_musts (new_layer word head tails args)) (expr_row seen_lines (Expr-F.New word head tails args) rest)) =
-    subst (λ (l : Expr-F Seen Seen Seen Seen Seen). Reads p (musts (expr_musts l) (expr_row seen_lines (Expr-F.New word head tails args) rest))) (layer-New expr function pattern stmt slot word head tails args) (at_line p x.node rest (Expr-F.New word head tails args) e r) in
-    let h = new_height x.node word head tails args e in
-    let some = alone (nat_le MADE (expr head).rank) refl (sym (λ i. nat_le MADE (expr head).rank || (empty_seen tails i && not (some_seen args i))) ∙ m.1.0) in
-    let each : list_all tail_stands tails ≡ true = sym (tails_seen tails) ∙ m.1.1.1.0 in
-    let none : list_any is_call tails ≡ false = sym (any_seen tails) ∙ not-true _ m.1.1.0 in
-    record {
-      word = word;
-      head = head;
-      tails = tails;
-      args = args;
-      layer = e;
-      read = (m.1.1.1.1.1.0, m.1.1.1.1.1.1, m.1.1.1.1.1.2, subst (λ (ps : List Piece). Reads m.1.1.1.1.1.0 (expr_line head ps)) (tails_map pieces seen_line expr tails (maybe arguments_line args rest)) m.1.1.1.1.1.3);
-      at = value_at NEW (room - 1) head m.0 (omega (arith, h, at.height, at.fits));
-      stops = head_stops some;
-      alone = some;
-      tails_at = record { each = may_none tails each none; height = refl; fits = omega (arith, h, at.height, at.fits) };
-      tails_end = tails_end args refl;
-      args_at = record { each = sym (args_seen args) ∙ m.1.1.1.1.0; height = refl; fits = omega (arith, h, at.height, at.fits) };
-      args_end = args_end args refl;
-    }
-  where
-    none_given : args ≡ None → Stops CHAIN rest
-    none_given z = subst (λ (n : ℕ). Stops (rest_level NEW n) rest) (new_rank x.node word head tails args e ∙ ap (λ (o : Option (Bracket Expr)). if is_some o then MADE else NEW) z) s
-
-    alone : (b : Bool) → nat_le MADE (expr head).rank ≡ b → (b || (is_empty tails && not (is_some args))) ≡ true → (MADE ≤ (expr head).rank) ⊎ (tails ≡ []) × (args ≡ None)
-    alone true k h = inl (leb-true _ _ k)
-    alone false k h = let a = and_parts _ _ h in inr (empty tails a.0, absent args a.1)
-      where
-        empty : (ts : List (Tail Expr)) → is_empty ts ≡ true → ts ≡ []
-        empty [] h = refl
-        empty (t ∷ ts) h = absurd (true≢false (sym h))
-
-        absent : (o : Option (Bracket Expr)) → not (is_some o) ≡ true → o ≡ None
-        absent None h = refl
-        absent (Some b) h = absurd (true≢false (sym h))
-
-    head_stops : (MADE ≤ (expr head).rank) ⊎ (tails ≡ []) × (args ≡ None) → Stops (rest_level NEW (expr head).rank) (behind_head tails args rest)
-    head_stops (inl more) = stops_made (expr head).rank (behind_head tails args rest) more
-    head_stops (inr z) = subst (λ (ps : List Piece). Stops (rest_level NEW (expr head).rank) ps) (λ i. behind_head (sym z.0 i) (sym z.1 i) rest) (stops_head (expr head).rank rest (none_given z.1))
-
-    tails_end : (o : Option (Bracket Expr)) → args ≡ o → NoKind (begins_tail false) (maybe arguments_line o rest)
-    tails_end None z = no_tail false rest (none_given z)
-    tails_end (Some b) z = no_kind_before (begins_tail false) kinds.LeftParen refl refl b.«open» _
-
-    args_end : (o : Option (Bracket Expr)) → args ≡ o → NoArguments (tall_args o) rest
-    args_end None z none = no_arguments rest (none_given z)
-    args_end (Some b) z none = absurd (true≢false none)
-
--- what is put together, as it is seen and as it is read
-pub new_seen : (x : Expr) (word : Token) (head : Expr) (tails : List (Tail Expr)) (args : Option (Bracket Expr)) → roll-Expr (Expr-F.New word head tails args) ≡ x → (below order : ℕ)
-    → below ≡ max (expr head).height (max (tallest_of tail_height tails) (maybe (bracket_row unmarked higher) args 0)) → order ≡ (if is_some args then MADE else NEW) → IsSeen x below order false
-new_seen x word head tails args rolled below order height rank =
-    let e = out_of (Expr-F.New word head tails args) x rolled in
-    let s = at-New x word head tails args e in
-    record {
-      sound = ap (λ (u : Seen). u.is_sound) s;
-      rank = rank ∙ sym (new_rank x word head tails args e);
-      target = sym (ap (λ (u : Seen). u.is_target) s);
-      height = ap (λ n. n + 1) height ∙ sym (new_height x word head tails args e);
-    }
-
-pub new_read : (p m : Place) (x : Expr) (word : Token) (head : Expr) (tails : List (Tail Expr)) (args : Option (Bracket Expr)) → roll-Expr (Expr-F.New word head tails args) ≡ x
-    → Read p (λ rest. Tok word (is kinds.New) ∷ expr_line head (behind_head tails args rest)) m
-    → stands NEW (expr head) ≡ true → (nat_le MADE (expr head).rank || (is_empty tails && not (is_some args))) ≡ true → list_all (λ t. tail_stands t && may_call false t) tails ≡ true
-    → passes (all_within argument_stands) args ≡ true → Read p (expr_line x) m
-new_read p m x word head tails args rolled read good alone each given =
-    read_at (Expr-F.New word head tails args) x rolled p m
-    (λ rest r.
-    let f = none_may tails each in
-    let b = read rest r in
-    subst (λ (l : Expr-F Seen Seen Seen Seen Seen). Reads p (musts (expr_musts l) (expr_row seen_lines (Expr-F.New word head tails args) rest))) (sym (layer-New expr function pattern stmt slot word head tails args)) (
-      good,
-      (
-        (λ i. nat_le MADE (expr head).rank || (empty_seen tails i && not (some_seen args i))) ∙ alone,
-        (
-          ap not (any_seen tails ∙ f.1),
-          (
-            tails_seen tails ∙ f.0,
-            (
-              args_seen args ∙ given,
-              (b.0, b.1, b.2, subst (λ (ps : List Piece). Reads b.0 (expr_line head ps)) (sym (tails_map pieces seen_line expr tails (maybe arguments_line args rest))) b.3),
-            ),
-          ),
-        ),
-      ),
-    ))
-
-pub same_new : (x made : Expr) (word word' : Token) (head head' : Expr) (tails tails' : List (Tail Expr)) (args args' : Option (Bracket Expr)) → roll-Expr (Expr-F.New word head tails args) ≡ made
-    → out-Expr x ≡ Expr-F.New word' head' tails' args' → word ≡ word' → head ≡ head' → tails ≡ tails' → args ≡ args' → made ≡ x
-same_new x made word word' head head' tails tails' args args' rolled layer w h t a = sym rolled ∙ (λ i. roll-Expr (Expr-F.New (w i) (h i) (t i) (a i))) ∙ node_of x (Expr-F.New word' head' tails' args') layer
-
--- what begins with `new`
-pub made_view : (room : ℕ) (p : Place) (x : Value) (rest : List Piece) → IsNextKind p kinds.New → ValueAt NEW room x → ValueStops NEW x rest → Reads p (value_line x rest) → MadeView room p x rest
-made_view room p x rest next at s r = let h = head_of p x.node rest r (and_parts _ _ at.stands).1 in by_head h (sort_told p x.node rest kinds.New next r h)
-  where
-    by_head : (h : Head x.node) → primary_of kinds.New ≡ sort_of h → MadeView room p x rest
-    by_head (IsName t e) k = absurd (let e : sorts.Nothing ≡ sorts.Name = k in cc)
-    by_head (IsThis t e) k = absurd (let e : sorts.Nothing ≡ sorts.This = k in cc)
-    by_head (IsLiteral t e) k = absurd (let e : sorts.Nothing ≡ sorts.Literal = k in cc)
-    by_head (IsTemplate t e) k = absurd (let e : sorts.Nothing ≡ sorts.Template = k in cc)
-    by_head (IsParen begin inner end e) k = absurd (let e : sorts.Nothing ≡ sorts.Paren = k in cc)
-    by_head (IsFun f e) k = absurd (let e : sorts.Nothing ≡ sorts.Function = k in cc)
-    by_head (IsNewTarget word dot target e) k = let m = at_line p x.node rest (Expr-F.NewTarget word dot target) e r in ATarget (record { word = word; dot = dot; target = target; layer = e; text = m.0; read = m.1 })
-    by_head (IsNew word head tails args e) k = AMade (new_view room p x rest word head tails args e at s r)
-
--- behind a `new` without arguments no tails and no arguments stand
-pub bare : (head : Expr) (tails : List (Tail Expr)) (args : Option (Bracket Expr)) → (expr head).rank < MADE → (MADE ≤ (expr head).rank) ⊎ (tails ≡ []) × (args ≡ None) → (tails ≡ []) × (args ≡ None)
-bare head tails args less (inl more) = absurd (omega (arith, less, more))
-bare head tails args less (inr z) = z
-
-pub bare_read : (p : Place) (tails : List (Tail Expr)) (args : Option (Bracket Expr)) (rest : List Piece) → (tails ≡ []) × (args ≡ None) → Reads p (behind_head tails args rest) → Reads p rest
-bare_read p tails args rest z r = subst (λ (ps : List Piece). Reads p ps) (λ i. behind_head (z.0 i) (z.1 i) rest) r
-
-pub is_made : (head : Expr) (b : Bool) → MADE ≤ (expr head).rank → (nat_le MADE (expr head).rank || b) ≡ true
-is_made head b more = ap (λ a. a || b) (le-leb MADE (expr head).rank more)
-
-pub is_bare : (b : Bool) (ts : List (Tail Expr)) → ts ≡ [] → (b || (is_empty ts && true)) ≡ true
-is_bare true ts e = refl
-is_bare false ts e = ap (λ (us : List (Tail Expr)). is_empty us && true) e
-
--- what `new` makes is of the level of a head
-pub made_high : (b : Bool) → NEW ≤ (if b then MADE else NEW)
-made_high true = omega arith
-made_high false = omega arith
-
--- the word `new` and what stands behind it
-pub behind_word : (room : ℕ) (p : Place) (x : Value) (rest : List Piece) → MadeView room p x rest → (t : Token) × (more : List Piece) × Reads p (Tok t (is kinds.New) ∷ more)
-behind_word room p x rest (ATarget v) = (v.word, Tok v.dot (is kinds.Dot) ∷ Tok v.target (is kinds.Name) ∷ rest, v.read)
-behind_word room p x rest (AMade v) = (v.word, expr_line v.head (behind_head v.tails v.args rest), v.read)
-
-module _ (room : ℕ) (p m : Place) (w : Token) (only : (t : Token) (more : List Piece) → Reads p (Tok t (is kinds.New) ∷ more) → (w ≡ t) × Reads m more) (k : TokenKind) (next : IsNextKind m k) where
-  -- behind it stands `.`
-  pub as_target : is kinds.Dot k ≡ true → (x : Value) (rest : List Piece) → MadeView room p x rest → TargetView p x.node rest
-  as_target h x rest (ATarget v) = v
-  as_target h x rest (AMade v) = absurd (expr_told m k next (ap begins_expr (is_same kinds.Dot k h)) v.head (behind_head v.tails v.args rest) (only v.word (expr_line v.head (behind_head v.tails v.args rest)) v.read).1)
-
-  -- something else does
-  pub as_made : is kinds.Dot k ≡ false → (x : Value) (rest : List Piece) → MadeView room p x rest → NewView room p x rest
-  as_made h x rest (ATarget v) = absurd (other_told kinds.Dot refl m k next h v.dot (Tok v.target (is kinds.Name) ∷ rest) (only v.word (Tok v.dot (is kinds.Dot) ∷ Tok v.target (is kinds.Name) ∷ rest) v.read).1)
-  as_made h x rest (AMade v) = v

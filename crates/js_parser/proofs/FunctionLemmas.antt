@@ -1,6 +1,5 @@
 -- A function and its parameters as their parts, and a function made of parts.
 use Rattle.std.proofs.Common.{◌≡◌, ℕ, ◌≤◌, max, map, Bool, true, false, ◌&&◌, not, List, [], ◌∷◌, Option, Some, None, is_some, refl, sym, ap, ◌∙◌, subst, arith, true≢false}
-use Rattle.std.specs.List.{list_all}
 use Rattle.js_tree.specs.declared.lists.Block.{Block}
 use Rattle.js_tree.specs.declared.lists.Bracket.{Bracket}
 use Rattle.js_tree.specs.declared.lists.Element.{Element}
@@ -21,17 +20,17 @@ use Rattle.js_tree.specs.Pieces.{Piece, Tok, Must}
 use Rattle.js_tree.specs.Spelling.{expr, function, pattern, slot, stmt, stmts_height}
 use Rattle.js_tree.specs.Spelling.Functions.{function_musts, function_name, function_row, parameter_fits}
 use Rattle.js_tree.specs.Spelling.Patterns.{DECLARED}
-use Rattle.js_tree.specs.Spelling.Nodes.{Seen, all_within, musts, passes, pieces, unmarked, stands}
+use Rattle.js_tree.specs.Spelling.Nodes.{Seen, all_within, musts, pieces, unmarked, stands}
 use Rattle.js_tree.specs.Spelling.Rows.{bracket_row, each_of, element_row, may_mark}
 use Rattle.js_tree.specs.TokenKinds.{is}
-use Rattle.js_tree.proofs.Folds.{layer-Keyword, map_block, map_bracket, map_element, map_listed, map_maybe}
+use Rattle.js_tree.proofs.Folds.{layer-Keyword, map_block, map_bracket}
 use Rattle.js_tree.proofs.KindLemmas.{is_same}
 use Rattle.js_tree.proofs.RowLemmas.{bracket_map, each_map}
 use Rattle.js_tree.proofs.SpellingLemmas.{at-Keyword, function_layer, function_line, seen_lines}
 use Rattle.js_tokens.specs.Ahead.{IsNextKind}
 use Rattle.js_tokens.specs.Pieces.{Reads}
 use Rattle.js_parser.proofs.BeginLemmas.{other_told}
-use Rattle.js_parser.proofs.BracketLemmas.{Good, bracket_good, bracket_tall, good_bracket, inside_height}
+use Rattle.js_parser.proofs.BracketLemmas.{Good, bracket_good, bracket_tall, good_bracket, inside_height, within_seen}
 use Rattle.js_parser.proofs.SlotLemmas.{slot_of, slot_view}
 use Rattle.js_parser.specs.Nodes.{ParameterAt, block_line, init_height, init_line, parameters_line, slot_line}
 use Rattle.js_parser.specs.declared.tall.Tall.{Tall}
@@ -137,15 +136,7 @@ module _ (f : Function) (word : Token) (name : Option Token) (params : Bracket S
       by_name (Some t) = refl
 
   fits_seen : all_within parameter_fits (map_bracket slot params) ≡ all_within fits params
-  fits_seen = λ i. front params.front i && end params.last i
-    where
-      front : (xs : List (Listed (Element Slot))) → list_all (λ (x : Listed (Element Seen)). parameter_fits x.item) (map (map_listed (map_element slot)) xs) ≡ list_all (λ x. fits x.item) xs
-      front [] = refl
-      front (x ∷ xs) = ap (λ b. fits x.item && b) (front xs)
-
-      end : (o : Option (Element Slot)) → passes parameter_fits (map_maybe (map_element slot) o) ≡ passes fits o
-      end None = refl
-      end (Some x) = refl
+  fits_seen = within_seen parameter_fits slot params
 
   line_seen : (rest : List Piece) → (function f).line rest ≡ Must (all_within fits params) ∷ Tok word (is kinds.Function) ∷ may_mark pieces kinds.Name name (parameters_line params (block_line body rest))
   line_seen rest =

@@ -14,6 +14,7 @@ pub mod LeadLemmas
 pub mod ListLemmas
 pub mod ListedLemmas
 pub mod MadeLemmas
+pub mod NewLemmas
 pub mod OperandLemmas
 pub mod ParenLemmas
 pub mod PlaceLemmas

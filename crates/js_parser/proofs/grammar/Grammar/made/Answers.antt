@@ -1,10 +1,11 @@
-use Rattle.std.proofs.Common.{◌≡◌, ◌-◌, ◌≤◌, ℕ, refl, sym, ap, ◌∙◌, subst, true, false, true≢false, ◌&&◌, Bool, arith, ◌∷◌, if◌then◌else◌}
+use Rattle.std.proofs.Common.{◌≡◌, List, ◌≤◌, ℕ, refl, sym, ap, ◌∙◌, subst, true, false, true≢false, ◌&&◌, Bool, arith, ◌∷◌, if◌then◌else◌}
+use Rattle.std.proofs.lemmas.Bool.{le-leb, or_left, or_right}
 use Rattle.std.specs.Prelude.{codes, None}
 use Rattle.std.specs.List.{list_all}
 use Rattle.std.specs.Str.{bytes_eq}
 use Rattle.js_tree.specs.Pieces.{Tok}
 use Rattle.js_tree.specs.Spelling.{expr, tallest_of}
-use Rattle.js_tree.specs.Spelling.Nodes.{MADE, NEW}
+use Rattle.js_tree.specs.Spelling.Nodes.{MADE, NEW, is_empty}
 use Rattle.js_tree.specs.Spelling.Rows.{maybe}
 use Rattle.js_tree.specs.TokenKinds.{is}
 use Rattle.js_tree.specs.declared.lists.Tail.{Tail}
@@ -14,9 +15,10 @@ use Rattle.js_tree.specs.declared.tree.Expr.TheOpen.{Expr-F}
 use Rattle.js_tree.specs.declared.tree.Expr.TheVariants.{rolls-New, rolls-NewTarget}
 use Rattle.js_tree.specs.declared.tree.Expr.{Expr, roll-Expr}
 use Rattle.js_parser.proofs.BeginLemmas.{with_mark}
-use Rattle.js_parser.proofs.ChainLemmas.{made_view, as_target, as_made, behind_word, behind_head, tall_tails, tall_args, same_new, new_seen, new_read, bare, bare_read, read_none, is_bare, is_made, made_high}
+use Rattle.js_parser.proofs.ChainLemmas.{read_none, tall_tails}
 use Rattle.js_parser.proofs.ExprLemmas.{value_of, made, node_of}
 use Rattle.js_parser.proofs.MadeLemmas.{seen_at, read_at}
+use Rattle.js_parser.proofs.NewLemmas.{as_made, as_target, bare, bare_read, behind_head, behind_word, made_high, made_view, new_read, new_seen, same_new, tall_args}
 use Rattle.js_parser.proofs.PlaceLemmas.{passes_none, passes_on}
 use Rattle.js_parser.proofs.ReadLemmas.{want, failed}
 use Rattle.js_parser.specs.Nodes.{arguments_line, expr_line, may_call, tail_height, tail_stands, tails_line}
@@ -125,7 +127,7 @@ returns-then-head-lt19 g c = record {
       (new_read _ _ _ c.in_ok-word.word c.in_ok-head.head.node c.new.result None (rolls-New c.in_ok-word.word c.in_ok-head.head.node c.new.result None)
       (λ rest r. with_mark kinds.New _ _ _ _ c.in_ok-word.ensures.found.0 c.in_ok-word.ensures.found.1
       (c.in_ok-head.ensures.reads.found.0 (tails_line c.new.result rest) (read_none _ c.new.result rest c.new.ensures r)))
-      c.in_ok-head.ensures.reads.found.1.stands (is_bare _ _ c.new.ensures) (ap (list_all (λ (t : Tail Expr). tail_stands t && may_call false t)) c.new.ensures) refl)
+      c.in_ok-head.ensures.reads.found.1.stands (or_right _ _ (ap (λ (ts : List (Tail Expr)). is_empty ts && true) c.new.ensures)) (ap (list_all (λ (t : Tail Expr). tail_stands t && may_call false t)) c.new.ensures) refl)
       (passes_on _ _ _ c.in_ok-word.ensures.moves c.in_ok-head.ensures.reads.moves)
       (omega (arith, c.in_ok-word.ensures.shorter, c.in_ok-head.ensures.reads.shorter))
       (λ x rest r at s.
@@ -150,7 +152,7 @@ returns g c = record {
   reads = made _ _ 18 _ _ _ _ c.value-2.ensures.made (subst (λ (n : ℕ). NEW ≤ n) (sym c.made_rank-rank.ensures) (made_high _))
       (new_read _ _ _ c.in_ok-word.word c.in_ok-head.head.node c.in_ok-tails.tails.node c.in_ok-args.args.node (rolls-New c.in_ok-word.word c.in_ok-head.head.node c.in_ok-tails.tails.node c.in_ok-args.args.node)
       (λ rest r. with_mark kinds.New _ _ _ _ c.in_ok-word.ensures.found.0 c.in_ok-word.ensures.found.1 (c.in_ok-head.ensures.reads.found.0 _ (c.in_ok-tails.ensures.reads.found.0 _ (c.in_ok-args.ensures.reads.found.0 rest r))))
-      c.in_ok-head.ensures.reads.found.1.stands (is_made _ _ (omega (arith, c.if-head-lt19.false, c.in_ok-head.ensures.reads.found.1.rank))) c.in_ok-tails.ensures.reads.found.1.each c.in_ok-args.ensures.reads.found.1.each)
+      c.in_ok-head.ensures.reads.found.1.stands (or_left _ _ (le-leb MADE (expr c.in_ok-head.head.node).rank (omega (arith, c.if-head-lt19.false, c.in_ok-head.ensures.reads.found.1.rank)))) c.in_ok-tails.ensures.reads.found.1.each c.in_ok-args.ensures.reads.found.1.each)
       (passes_on _ _ _ (passes_on _ _ _ (passes_on _ _ _ c.in_ok-word.ensures.moves c.in_ok-head.ensures.reads.moves) c.in_ok-tails.ensures.reads.moves) c.in_ok-args.ensures.reads.moves)
       (omega (arith, c.in_ok-word.ensures.shorter, c.in_ok-head.ensures.reads.shorter, c.in_ok-tails.ensures.reads.shorter, c.in_ok-args.ensures.reads.shorter))
       (λ x rest r at s.
