@@ -1,5 +1,6 @@
 -- Targets as patterns, and what is assigned to them.
 use Rattle.std.proofs.Common.{◌≡◌, ℕ, zero, suc, ◌+◌, ◌<◌, ◌≤◌, ◌==◌, max, Bool, true, false, ◌&&◌, ◌||◌, List, ◌∷◌, Result, Ok, Err, IfOk, refl, sym, ap, ◌∙◌, subst, arith, true≢false}
+use Rattle.std.proofs.lemmas.Bool.{and_parts}
 use Rattle.std.specs.Prelude.{nat_le}
 use Rattle.std.proofs.lemmas.Bool.Decides.{nat_tests}
 use Rattle.js_tree.specs.declared.token.Token.{Token}
@@ -28,7 +29,6 @@ use Rattle.js_tokens.specs.declared.goal.Goal.TheVariants as goal
 use Rattle.js_parser.proofs.ExprLemmas.{node_of}
 use Rattle.js_parser.proofs.HeadLemmas.{rank_at}
 use Rattle.js_parser.proofs.LeadLemmas.{at_least}
-use Rattle.js_parser.proofs.ListedLemmas.{both}
 use Rattle.js_parser.proofs.MadeLemmas.{read_at, seen_at}
 use Rattle.js_parser.proofs.ReadLemmas.{IsWant}
 use Rattle.js_parser.proofs.StrengthLemmas.{of_assignment, plain_assignment}
@@ -200,7 +200,7 @@ covering_step n deeper p low sound = by_layer (out-Pattern p) refl
         }
     by_layer (Pattern-F.Member chain) e =
         let u = at_pattern p (Pattern-F.Member chain) e in
-        let fit : (((expr chain).rank == CHAIN) ≡ true) × ((expr chain).is_target ≡ true) = both _ _ (sym (ap (λ (z : Seen). z.is_sound) u) ∙ sound) in
+        let fit : (((expr chain).rank == CHAIN) ≡ true) × ((expr chain).is_target ≡ true) = and_parts _ _ (sym (ap (λ (z : Seen). z.is_sound) u) ∙ sound) in
         let rank = equal (expr chain).rank CHAIN fit.0 in
         record {
           target = chain;
@@ -210,7 +210,7 @@ covering_step n deeper p low sound = by_layer (out-Pattern p) refl
         }
     by_layer (Pattern-F.«Pattern::Paren» begin q end) e =
         let u = at_pattern p (Pattern-F.«Pattern::Paren» begin q end) e in
-        let fit : ((pattern q).is_sound ≡ true) × ((pattern q).is_target ≡ true) = both _ _ (sym (ap (λ (z : Seen). z.is_sound) u) ∙ sound) in
+        let fit : ((pattern q).is_sound ≡ true) × ((pattern q).is_target ≡ true) = and_parts _ _ (sym (ap (λ (z : Seen). z.is_sound) u) ∙ sound) in
         let h : (pattern p).height ≡ max (pattern q).height 0 + 1 = ap (λ (z : Seen). z.height) u in
         let c = deeper q (omega (arith, h, low)) fit.0 in
         let x = expression.Paren begin c.target end in
@@ -341,7 +341,7 @@ given_view room head x behind rest m is at s (Assigns target op given e c b) r =
     let seen = at_expr x.node (Expr-F.Assign target op given) e in
     let h : (expr x.node).height ≡ max (pattern target).height (max (expr given).height 0) + 1 = ap (λ (z : Seen). z.height) seen in
     let sound : (((pattern target).is_sound && (is_kind kinds.Assign (kind_of op) || (pattern target).is_target)) ≡ true) × (stands ASSIGN (expr given) ≡ true) =
-    both _ _ (sym (ap (λ (z : Seen). z.is_sound) seen) ∙ (both _ _ at.stands).0) in
+    and_parts _ _ (sym (ap (λ (z : Seen). z.is_sound) seen) ∙ (and_parts _ _ at.stands).0) in
     record {
       target = target;
       op = op;
@@ -356,7 +356,7 @@ given_view room head x behind rest m is at s (Assigns target op given e c b) r =
 
 -- a choice stands below
 pub above_cond : (room : ℕ) (x : Value) → ValueAt BINARY room x → (expr x.node).rank ≡ COND → ⊥
-above_cond room x at e = omega (arith, e, at_least BINARY (expr x.node).rank (both _ _ at.stands).1)
+above_cond room x at e = omega (arith, e, at_least BINARY (expr x.node).rank (and_parts _ _ at.stands).1)
 
 pub made_other : (room order : ℕ) (x : Expr) (p : Place) (result : Result Value TokenFault) → Makes ASSIGN room x p result → IsSeen x order ASSIGN false → IfOk result (λ v. (expr v.node).rank ≡ COND → ⊥)
 made_other room order x p (Ok v) makes seen = λ e. omega (arith, e, seen.rank, ap (λ (y : Expr). (expr y).rank) makes.found.0)

@@ -1,5 +1,6 @@
 -- How items by commas in brackets are read, item by item.
 use Rattle.std.proofs.Common.{◌≡◌, ℕ, ◌≤◌, max, Bool, true, false, ◌&&◌, not, List, [], ◌∷◌, ◌++◌, Option, Some, None, is_some, refl, sym, ap, ◌∙◌, subst, arith, append-nil, append_assoc, true≢false}
+use Rattle.std.proofs.lemmas.Bool.{and_from, and_parts}
 use Rattle.std.proofs.lemmas.List.Folds.{list_all-map}
 use Rattle.std.specs.List.{list_all}
 use Rattle.js_tree.specs.declared.lists.Bracket.{Bracket}
@@ -76,14 +77,6 @@ puts_height f x (Some mark) front None front' last' puts h =
     omega (arith, e, tallest-push (λ (y : Listed _). f y.item) front (record { item = x; mark = mark }))
 
 -- TESTS
-
-pub both : (a b : Bool) → (a && b) ≡ true → (a ≡ true) × (b ≡ true)
-both true b e = (refl, e)
-both false b e = absurd (true≢false (sym e))
-
-pub joined : (a b : Bool) → a ≡ true → b ≡ true → (a && b) ≡ true
-joined true b e f = f
-joined false b e f = absurd (true≢false (sym e))
 
 pub both_not : (a b : Bool) → (not a && not b) ≡ true → (a ≡ false) × (b ≡ false)
 both_not false false e = (refl, refl)
@@ -260,12 +253,12 @@ module _ {Y : Type 0} (item : Element Y → Onto) (fits : Element Y → Bool) (h
   pub bracket_good : (b : Bracket Y) (tall : ℕ) → all_within fits b ≡ true → tall ≡ inside_height height b.front b.last → tall ≤ room → Good item Suits Stops b.front b.last
   unfolding AllOf
   bracket_good b tall good same low =
-      let s = both _ _ good in
+      let s = and_parts _ _ good in
       record { each = each b.front s.0 (omega (arith, same, low)); end = end b.last s.1 (omega (arith, same, low)) }
     where
       each : (xs : List (Listed (Element Y))) → list_all (λ x. fits x.item) xs ≡ true → tallest_of (λ x. height x.item) xs ≤ room → AllOf (λ (x : Listed (Element Y)). Suits x.item) xs
       each [] e h = tt
-      each (x ∷ xs) e h = let s = both _ _ e in ((s.0, omega (arith, h)), each xs s.1 (omega (arith, h)))
+      each (x ∷ xs) e h = let s = and_parts _ _ e in ((s.0, omega (arith, h)), each xs s.1 (omega (arith, h)))
 
       end : (o : Option (Element Y)) → passes fits o ≡ true → last_height height o ≤ room → GoodLast item Suits Stops o
       end None e h = tt
@@ -276,11 +269,11 @@ module _ {Y : Type 0} (item : Element Y → Onto) (fits : Element Y → Bool) (h
   good_bracket b good =
       let e = each b.front good.each in
       let l = end b.last good.end in
-      (joined _ _ e.0 l.0, omega (arith, e.1, l.1))
+      (and_from _ _ e.0 l.0, omega (arith, e.1, l.1))
     where
       each : (xs : List (Listed (Element Y))) → AllOf (λ (x : Listed (Element Y)). Suits x.item) xs → (list_all (λ x. fits x.item) xs ≡ true) × (tallest_of (λ x. height x.item) xs ≤ room)
       each [] a = (refl, omega arith)
-      each (x ∷ xs) a = let m = each xs a.1 in (joined _ _ a.0.0 m.0, omega (arith, a.0.1, m.1))
+      each (x ∷ xs) a = let m = each xs a.1 in (and_from _ _ a.0.0 m.0, omega (arith, a.0.1, m.1))
 
       end : (o : Option (Element Y)) → GoodLast item Suits Stops o → (passes fits o ≡ true) × (last_height height o ≤ room)
       end None a = (refl, omega arith)

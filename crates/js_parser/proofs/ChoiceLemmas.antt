@@ -1,5 +1,6 @@
 -- Assignments and choices by what they begin with, and the arms of a choice.
 use Rattle.std.proofs.Common.{◌≡◌, ⊎_elim, ℕ, zero, suc, ◌+◌, ◌-◌, ◌<◌, ◌≤◌, ◌==◌, max, Bool, true, false, ◌&&◌, ◌||◌, not, List, [], ◌∷◌, ◌++◌, map, Result, Ok, Err, refl, sym, ap, ◌∙◌, subst, arith, append-nil, append_assoc, true≢false, if◌then◌else◌}
+use Rattle.std.proofs.lemmas.Bool.{and_parts}
 use Rattle.std.specs.List.{list_all}
 use Rattle.std.specs.Prelude.{nat_le, Option, Some, None}
 use Rattle.std.specs.Result.{IsErrAnd}
@@ -33,7 +34,6 @@ use Rattle.js_parser.proofs.BeginLemmas.{stops_before, stops_higher}
 use Rattle.js_parser.proofs.ExprLemmas.{value_at, value_of}
 use Rattle.js_parser.proofs.HeadLemmas.{at_line, rank_at}
 use Rattle.js_parser.proofs.LeadLemmas.{Leads, at_higher, at_least, first_read, least_at}
-use Rattle.js_parser.proofs.ListedLemmas.{both}
 use Rattle.js_parser.proofs.MadeLemmas.{read_at, seen_at}
 use Rattle.js_parser.proofs.PlaceLemmas.{moved, passes_none, passes_on}
 use Rattle.js_parser.proofs.ReadLemmas.{IsWant, gives}
@@ -88,8 +88,8 @@ assign_view room p x rest r at s = by_layer (out-Expr x.node) refl
     by_arms [] last e = absurd (true≢false (sym (at_line p x.node rest (Expr-F.Cond [] last) e r).0))
     by_arms (arm ∷ arms) last e =
         let m = at_line p x.node rest (Expr-F.Cond (arm ∷ arms) last) e r in
-        let each : (arm_stands arm ≡ true) × (list_all arm_fits (seen_arms arms) ≡ true) = both _ _ m.1.0 in
-        let fits : (stands BINARY (expr arm.test) ≡ true) × (stands ASSIGN (expr arm.value) ≡ true) = both _ _ each.0 in
+        let each : (arm_stands arm ≡ true) × (list_all arm_fits (seen_arms arms) ≡ true) = and_parts _ _ m.1.0 in
+        let fits : (stands BINARY (expr arm.test) ≡ true) × (stands ASSIGN (expr arm.value) ≡ true) = and_parts _ _ each.0 in
         let h : (expr x.node).height ≡ max (max (max (expr arm.test).height (expr arm.value).height) (tallest_of arm_height arms)) (expr last).height + 1 = cond_height x.node (arm ∷ arms) last e in
         record {
           first = value_of arm.test;
@@ -141,11 +141,11 @@ assign_view room p x rest r at s = by_layer (out-Expr x.node) refl
     by_args word head tails (Some a) e = by_rank 19 e (omega arith)
 
     by_layer : (l : ExprLayer) → out-Expr x.node ≡ l → Leads AfterTest BINARY room p x rest
-    by_layer (Expr-F.Comma first others) e = let none : (expr x.node).rank ≡ 0 = rank_at x.node (Expr-F.Comma first others) e in absurd (omega (arith, none, at_least ASSIGN (expr x.node).rank (both _ _ at.stands).1))
+    by_layer (Expr-F.Comma first others) e = let none : (expr x.node).rank ≡ 0 = rank_at x.node (Expr-F.Comma first others) e in absurd (omega (arith, none, at_least ASSIGN (expr x.node).rank (and_parts _ _ at.stands).1))
     by_layer (Expr-F.Assign target op given) e =
-        let all : (((pattern target).is_sound && (is kinds.Assign (kind_of op) || (pattern target).is_target)) ≡ true) × (stands ASSIGN (expr given) ≡ true) = both _ _ (sym (ap (λ (t : Seen). t.is_sound) (at_expr x.node (Expr-F.Assign target op given) e)) ∙ (both _ _ at.stands).0) in
+        let all : (((pattern target).is_sound && (is kinds.Assign (kind_of op) || (pattern target).is_target)) ≡ true) × (stands ASSIGN (expr given) ≡ true) = and_parts _ _ (sym (ap (λ (t : Seen). t.is_sound) (at_expr x.node (Expr-F.Assign target op given) e)) ∙ (and_parts _ _ at.stands).0) in
         let h : (expr x.node).height ≡ max (pattern target).height (max (expr given).height 0) + 1 = ap (λ (t : Seen). t.height) (at_expr x.node (Expr-F.Assign target op given) e) in
-        let sound : ((pattern target).is_sound ≡ true) × ((is kinds.Assign (kind_of op) || (pattern target).is_target) ≡ true) = both _ _ all.0 in
+        let sound : ((pattern target).is_sound ≡ true) × ((is kinds.Assign (kind_of op) || (pattern target).is_target) ≡ true) = and_parts _ _ all.0 in
         let c = covering (pattern target).height target (omega arith) sound.0 in
         let a = alike c.target target c.covers in
         let more = Tok op is_assignment ∷ expr_line given rest in
@@ -246,7 +246,7 @@ pub record ArmsAt (room : ℕ) (ys : List (Arm Expr)) (last : Expr) : Type 0 whe
   pub fits : (expr last).height < room
 
 others_at : (room : ℕ) (y : Arm Expr) (ys : List (Arm Expr)) (last : Expr) → ArmsAt room (y ∷ ys) last → ArmsAt room ys last
-others_at room y ys last at = record { each = (both _ _ at.each).1; low = let low : max (arm_height y) (tallest_of arm_height ys) < room = at.low in omega (arith, low); stands = at.stands; other = at.other; fits = at.fits }
+others_at room y ys last at = record { each = (and_parts _ _ at.each).1; low = let low : max (arm_height y) (tallest_of arm_height ys) < room = at.low in omega (arith, low); stands = at.stands; other = at.other; fits = at.fits }
 
 -- behind an arm the next test stands
 pub next_view : (room : ℕ) (p : Place) (ys : List (Arm Expr)) (last : Expr) (rest : List Piece) → Reads p (each_of arm_line ys (expr_line last rest)) → ArmsAt room ys last → Stops ASSIGN rest
@@ -261,7 +261,7 @@ next_view room p [] last rest r at s = by_view (assign_view (room - 1) p (value_
         to_arm head behind (IsChosen c) = absurd (at.other (rank_at last (Expr-F.Cond _ c.last) c.is))
         to_arm head behind (IsNever f) = IsNot f
 next_view room p (y ∷ ys) last rest r at s =
-    let fits : (stands BINARY (expr y.test) ≡ true) × (stands ASSIGN (expr y.value) ≡ true) = both _ _ (both _ _ at.each).0 in
+    let fits : (stands BINARY (expr y.test) ≡ true) × (stands ASSIGN (expr y.value) ≡ true) = and_parts _ _ (and_parts _ _ at.each).0 in
     let more = expr_line y.value (mark pieces kinds.Colon y.colon (each_of arm_line ys (expr_line last rest))) in
     record {
       first = value_of y.test;
@@ -413,7 +413,7 @@ module _ (room : ℕ) (head : Value) (m : Place) (arms : List (Arm Expr)) (test 
 
       all_push : (ys : List (Arm Expr)) → list_all arm_stands ys ≡ true → arm_stands arm.node ≡ true → list_all arm_stands (ys ++ arm.node ∷ []) ≡ true
       all_push [] a b = ap (λ (c : Bool). c && true) b
-      all_push (y ∷ ys) a b = let s = both _ _ a in ap (λ (c : Bool). c && list_all arm_stands (ys ++ arm.node ∷ [])) s.0 ∙ all_push ys s.1 b
+      all_push (y ∷ ys) a b = let s = and_parts _ _ a in ap (λ (c : Bool). c && list_all arm_stands (ys ++ arm.node ∷ [])) s.0 ∙ all_push ys s.1 b
 
 -- THE NODE
 

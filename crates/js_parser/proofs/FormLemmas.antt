@@ -1,5 +1,6 @@
 -- Powers, operators before and behind an operand, and chains: which of them an expression is by its rank, and with what it begins.
 use Rattle.std.proofs.Common.{◌≡◌, ◌⊎◌, ⊎_elim, inl, inr, ℕ, ◌+◌, ◌<◌, ◌≤◌, max, Bool, true, false, ◌&&◌, ◌||◌, not, List, ◌∷◌, refl, sym, ap, ◌∙◌, subst, arith, true≢false, if◌then◌else◌}
+use Rattle.std.proofs.lemmas.Bool.{and_parts}
 use Rattle.std.specs.Prelude.{nat_le, Option, Some, None}
 use Rattle.js_tree.specs.declared.lists.Bracket.{Bracket}
 use Rattle.js_tree.specs.declared.lists.Tail.{Tail}
@@ -27,7 +28,6 @@ use Rattle.js_parser.proofs.BeginLemmas.{stops_before, stops_higher}
 use Rattle.js_parser.proofs.ExprLemmas.{at_lower, value_of, value_at}
 use Rattle.js_parser.proofs.HeadLemmas.{Head, IsName, IsThis, IsLiteral, IsTemplate, IsParen, IsFun, IsNewTarget, IsNew, at_line, head_of, rank_at, sort_of, sort_told, token_told}
 use Rattle.js_parser.proofs.LeadLemmas.{Leads, at_higher, at_least, least_at}
-use Rattle.js_parser.proofs.ListedLemmas.{both}
 use Rattle.js_parser.proofs.ParenLemmas.{sound_at}
 use Rattle.js_parser.proofs.StrengthLemmas.{of_update, plain_unary, plain_update}
 use Rattle.js_parser.proofs.TokenLemmas.{told}
@@ -124,7 +124,7 @@ pub data AfterBase (room : ℕ) (head x : Value) (behind rest : List Piece) : Ty
       → (expr exponent).height < room → behind ≡ mark pieces kinds.Stars op (expr_line exponent rest) → AfterBase room head x behind rest
 
 pub power_view : (room : ℕ) (p : Place) (x : Value) (rest : List Piece) → Reads p (value_line x rest) → ValueAt POWER room x → Stops POWER rest → Leads (AfterBase room) UNARY room p x rest
-power_view room p x rest r at s = by_form (strong p x.node rest r (both _ _ at.stands).1)
+power_view room p x rest r at s = by_form (strong p x.node rest r (and_parts _ _ at.stands).1)
   where
     stays : nat_le UNARY (expr x.node).rank ≡ true → Leads (AfterBase room) UNARY room p x rest
     stays h = record { first = x; behind = rest; read = r; at = at_higher POWER UNARY room x h at; stops = stops_higher POWER UNARY rest (omega arith) s; after = NotRaised refl refl }
@@ -153,7 +153,7 @@ power_view room p x rest r at s = by_form (strong p x.node rest r (both _ _ at.s
 -- the base alone
 pub not_raised : (room : ℕ) (head x : Value) (behind rest : List Piece) (m : Place) → AfterBase room head x behind rest → (expr head.node).rank < UPDATE → Reads m behind → (head ≡ x) × Reads m rest
 not_raised room head x behind rest m (NotRaised e b) low r = (sym e, subst (Reads m) b r)
-not_raised room head x behind rest m (Raised op exponent e base good tall b) low r = absurd (omega (arith, low, at_least UPDATE (expr head.node).rank (both _ _ base).1))
+not_raised room head x behind rest m (Raised op exponent e base good tall b) low r = absurd (omega (arith, low, at_least UPDATE (expr head.node).rank (and_parts _ _ base).1))
 
 pub no_stars : (room : ℕ) (head x : Value) (behind rest : List Piece) (m : Place) (n : ℕ) → AfterBase room head x behind rest → IsStrength m n → (n ≡ 14 → ⊥) → Reads m behind → (head ≡ x) × Reads m rest
 no_stars room head x behind rest m n (NotRaised e b) is other r = (sym e, subst (Reads m) b r)
@@ -194,17 +194,17 @@ update_stops op rest m r t n next read =
     omega (arith, e)
 
 pub postfix_view : (room : ℕ) (p : Place) (x : Value) (rest : List Piece) → Reads p (value_line x rest) → ValueAt POSTFIX room x → Stops POSTFIX rest → Leads AfterTarget CHAIN room p x rest
-postfix_view room p x rest r at s = by_form (strong p x.node rest r (least_at POWER (expr x.node).rank (omega (arith, at_least POSTFIX (expr x.node).rank (both _ _ at.stands).1))))
+postfix_view room p x rest r at s = by_form (strong p x.node rest r (least_at POWER (expr x.node).rank (omega (arith, at_least POSTFIX (expr x.node).rank (and_parts _ _ at.stands).1))))
   where
     stays : nat_le CHAIN (expr x.node).rank ≡ true → Leads AfterTarget CHAIN room p x rest
     stays h = record { first = x; behind = rest; read = r; at = at_higher POSTFIX CHAIN room x h at; stops = stops_higher POSTFIX CHAIN rest (omega arith) s; after = NotUpdated refl refl }
 
     by_form : Strong x.node → Leads AfterTarget CHAIN room p x rest
-    by_form (IsPower base op exponent e) = below POSTFIX POWER x.node (rank_at x.node (Expr-F.Power base op exponent) e) (omega arith) (both _ _ at.stands).1
-    by_form (IsUnary op operand e) = below POSTFIX (expr x.node).rank x.node refl (rank-Unary x.node op operand e) (both _ _ at.stands).1
+    by_form (IsPower base op exponent e) = below POSTFIX POWER x.node (rank_at x.node (Expr-F.Power base op exponent) e) (omega arith) (and_parts _ _ at.stands).1
+    by_form (IsUnary op operand e) = below POSTFIX (expr x.node).rank x.node refl (rank-Unary x.node op operand e) (and_parts _ _ at.stands).1
     by_form (IsPostfix target op e) =
         let m = at_line p x.node rest (Expr-F.Postfix target op) e r in
-        let fit : ((expr target).is_sound ≡ true) × ((expr target).is_target ≡ true) = both _ _ m.0 in
+        let fit : ((expr target).is_sound ≡ true) × ((expr target).is_target ≡ true) = and_parts _ _ m.0 in
         let h : (expr x.node).height ≡ max (expr target).height 0 + 1 = ap (λ (t : Seen). t.height) (at_expr x.node (Expr-F.Postfix target op) e) in
         record {
           first = value_of target;
@@ -291,7 +291,7 @@ no_chain p x rest k next h r high = by_form (strong p x rest r (least_at POWER (
     by_form (IsPostfix target op e) = below CHAIN POSTFIX x (rank_at x (Expr-F.Postfix target op) e) (omega arith) high
     by_form (IsChain head tails e) =
         let m = at_line p x rest (Expr-F.Chain head tails) e r in
-        no_head p head _ k next h m.1.1.1.1 (least_at NEW (expr head).rank (omega (arith, at_least MADE (expr head).rank (both _ _ m.0).1)))
+        no_head p head _ k next h m.1.1.1.1 (least_at NEW (expr head).rank (omega (arith, at_least MADE (expr head).rank (and_parts _ _ m.0).1)))
     by_form (IsHigh v) = no_head p x rest k next h r v
 
 -- nothing that is raised or lowered by an operator behind it
@@ -303,7 +303,7 @@ no_postfix p x rest k next h r high = by_form (strong p x rest r (least_at POWER
     by_form (IsUnary op operand e) = omega (arith, rank-Unary x op operand e, at_least POSTFIX (expr x).rank high)
     by_form (IsPostfix target op e) =
         let m = at_line p x rest (Expr-F.Postfix target op) e r in
-        let fit : ((expr target).is_sound ≡ true) × ((expr target).is_target ≡ true) = both _ _ m.0 in
+        let fit : ((expr target).is_sound ≡ true) × ((expr target).is_target ≡ true) = and_parts _ _ m.0 in
         no_chain p target _ k next h m.1 (target_high target fit.1)
     by_form (IsChain head tails e) = no_chain p x rest k next h r (ap (nat_le CHAIN) (rank_at x (Expr-F.Chain head tails) e))
     by_form (IsHigh v) = no_head p x rest k next h r v
@@ -320,10 +320,10 @@ pub record IsOperation (room : ℕ) (p : Place) (x : Value) (rest : List Piece) 
 
 -- one, or an expression without an operator before it
 unary_view : (room : ℕ) (p : Place) (x : Value) (rest : List Piece) → Reads p (value_line x rest) → ValueAt UNARY room x → IsOperation room p x rest ⊎ ValueAt POSTFIX room x
-unary_view room p x rest r at = by_form (strong p x.node rest r (least_at POWER (expr x.node).rank (omega (arith, at_least UNARY (expr x.node).rank (both _ _ at.stands).1))))
+unary_view room p x rest r at = by_form (strong p x.node rest r (least_at POWER (expr x.node).rank (omega (arith, at_least UNARY (expr x.node).rank (and_parts _ _ at.stands).1))))
   where
     by_form : Strong x.node → IsOperation room p x rest ⊎ ValueAt POSTFIX room x
-    by_form (IsPower base op exponent e) = below UNARY POWER x.node (rank_at x.node (Expr-F.Power base op exponent) e) (omega arith) (both _ _ at.stands).1
+    by_form (IsPower base op exponent e) = below UNARY POWER x.node (rank_at x.node (Expr-F.Power base op exponent) e) (omega arith) (and_parts _ _ at.stands).1
     by_form (IsUnary op operand e) =
         let m = at_line p x.node rest (Expr-F.Unary op operand) e r in
         let h : (expr x.node).height ≡ max (expr operand).height 0 + 1 = ap (λ (t : Seen). t.height) (at_expr x.node (Expr-F.Unary op operand) e) in
@@ -335,7 +335,7 @@ unary_view room p x rest r at = by_form (strong p x.node rest r (least_at POWER 
 -- the operator is told
 pub operation_view : (room : ℕ) (p : Place) (x : Value) (rest : List Piece) → LeadsTo is_unary p → Reads p (value_line x rest) → ValueAt UNARY room x → IsOperation room p x rest
 operation_view room p x rest leads r at =
-    ⊎_elim (λ (v : IsOperation room p x rest). v) (λ (w : ValueAt POSTFIX room x). absurd (no_postfix p x.node rest leads.0 leads.1 leads.2 r (both _ _ w.stands).1)) (unary_view room p x rest r at)
+    ⊎_elim (λ (v : IsOperation room p x rest). v) (λ (w : ValueAt POSTFIX room x). absurd (no_postfix p x.node rest leads.0 leads.1 leads.2 r (and_parts _ _ w.stands).1)) (unary_view room p x rest r at)
 
 -- another token is told
 pub without_operator : (room : ℕ) (p : Place) (x : Value) (rest : List Piece) (k : TokenKind) → IsNextKind p k → is_unary k ≡ false → Reads p (value_line x rest) → ValueAt UNARY room x → ValueAt POSTFIX room x

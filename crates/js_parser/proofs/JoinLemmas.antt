@@ -1,5 +1,6 @@
 -- Lists by commas and operands with operators of one level: with what they begin, and how they are put together.
 use Rattle.std.proofs.Common.{◌≡◌, ◌⊎◌, ⊎_elim, inl, inr, ℕ, zero, suc, ◌+◌, ◌-◌, ◌<◌, ◌≤◌, ◌==◌, max, Bool, true, false, ◌&&◌, ◌||◌, not, List, [], ◌∷◌, Ok, Err, Result, refl, sym, ap, ◌∙◌, subst, arith, true≢false, if◌then◌else◌}
+use Rattle.std.proofs.lemmas.Bool.{and_parts}
 use Rattle.std.specs.List.{list_all}
 use Rattle.std.specs.Prelude.{nat_le}
 use Rattle.std.proofs.lemmas.Bool.Decides.{nat_tests}
@@ -20,7 +21,7 @@ use Rattle.js_tokens.specs.declared.fault.TokenFault.{TokenFault}
 use Rattle.js_parser.proofs.BeginLemmas.{stops_higher}
 use Rattle.js_parser.proofs.ExprLemmas.{list_low, node_of, rests, rests_at, value_at, value_of}
 use Rattle.js_parser.proofs.LeadLemmas.{Leads, at_least, first_fails, least_at, read_on}
-use Rattle.js_parser.proofs.ListedLemmas.{all_seen, both, empty_seen, height_seen, list_view, ListView, seen_others}
+use Rattle.js_parser.proofs.ListedLemmas.{all_seen, empty_seen, height_seen, list_view, ListView, seen_others}
 use Rattle.js_parser.proofs.MadeLemmas.{read_at, seen_at}
 use Rattle.js_parser.proofs.OperandLemmas.{goes_no_further, goes_on, operand_stops}
 use Rattle.js_parser.proofs.ReadLemmas.{IsWant}
@@ -230,4 +231,4 @@ between level h comma assign unary new =
     lower a k other = grind (arith, nat_tests, k, other)
 
     middle : (nat_le 3 level && nat_le level 14) ≡ true → (3 ≤ level) × (level ≤ 13)
-    middle e = let s : (nat_le 3 level ≡ true) × (nat_le level 14 ≡ true) = both (nat_le 3 level) (nat_le level 14) e in (at_least 3 level s.0, lower level s.1 unary)
+    middle e = let s : (nat_le 3 level ≡ true) × (nat_le level 14 ≡ true) = and_parts (nat_le 3 level) (nat_le level 14) e in (at_least 3 level s.0, lower level s.1 unary)

@@ -1,5 +1,6 @@
 -- A list by commas, and operands with operators of one level, as their parts.
 use Rattle.std.proofs.Common.{◌≡◌, ◌⊎◌, ⊎_elim, inl, inr, ℕ, ◌+◌, ◌-◌, ◌<◌, ◌≤◌, ◌==◌, max, Bool, true, false, ◌&&◌, not, List, [], ◌∷◌, map, refl, sym, ap, ◌∙◌, subst, arith, true≢false, if◌then◌else◌}
+use Rattle.std.proofs.lemmas.Bool.{and_parts}
 use Rattle.std.specs.List.{list_all}
 use Rattle.std.specs.Prelude.{nat_le, Option, Some, None}
 use Rattle.std.proofs.lemmas.Bool.Decides.{nat_tests, eqb_tells}
@@ -50,10 +51,6 @@ pub record ListView (rank : ℕ) (p : Place) (x : Expr) (rest : List Piece) : Ty
   pub some : is_empty others ≡ false
   pub height : (expr x).height ≡ max (expr first).height (further_height others) + 1
 
-pub both : (a b : Bool) → (a && b) ≡ true → (a ≡ true) × (b ≡ true)
-both true b e = (refl, e)
-both false b e = absurd (true≢false (sym e))
-
 pub is_false : (a : Bool) → not a ≡ true → a ≡ false
 is_false true e = absurd (true≢false (sym e))
 is_false false e = refl
@@ -66,8 +63,8 @@ pub comma_view : (p : Place) (x : Expr) (rest : List Piece) (first : Expr) (othe
     → Reads p (expr_line x rest) → ListView 0 p x rest
 comma_view p x rest first others e sound r =
     let s = at_expr x (Expr-F.Comma first others) e in
-    let ok : ((stands 1 (expr first) && not (is_empty (seen_others others))) ≡ true) × (all_further (stands 1) (seen_others others) ≡ true) = both _ _ (sym (ap (λ (t : Seen). t.is_sound) s) ∙ sound) in
-    let front : (stands 1 (expr first) ≡ true) × (not (is_empty (seen_others others)) ≡ true) = both _ _ ok.0 in
+    let ok : ((stands 1 (expr first) && not (is_empty (seen_others others))) ≡ true) × (all_further (stands 1) (seen_others others) ≡ true) = and_parts _ _ (sym (ap (λ (t : Seen). t.is_sound) s) ∙ sound) in
+    let front : (stands 1 (expr first) ≡ true) × (not (is_empty (seen_others others)) ≡ true) = and_parts _ _ ok.0 in
     record {
       first = first;
       others = others;
@@ -119,10 +116,10 @@ pub list_view : (rank room : ℕ) → IsListRank rank → (p : Place) (x : Value
 list_view rank room list p x rest at r = by_layer (out-Expr x.node) refl
   where
     sound : (expr x.node).is_sound ≡ true
-    sound = (both (expr x.node).is_sound (nat_le rank (expr x.node).rank) at.stands).0
+    sound = (and_parts (expr x.node).is_sound (nat_le rank (expr x.node).rank) at.stands).0
 
     least : nat_le rank (expr x.node).rank ≡ true
-    least = (both (expr x.node).is_sound (nat_le rank (expr x.node).rank) at.stands).1
+    least = (and_parts (expr x.node).is_sound (nat_le rank (expr x.node).rank) at.stands).1
 
     -- of another rank
     other : (n : ℕ) → (expr x.node).rank ≡ n → (n ≡ rank → ⊥) → ListView rank p x.node rest ⊎ ValueAt (rank + 1) room x

@@ -1,5 +1,6 @@
 -- The operands behind the first one.
 use Rattle.std.proofs.Common.{◌≡◌, ℕ, ◌+◌, ◌-◌, ◌≤◌, Bool, true, false, ◌&&◌, List, [], ◌∷◌, ◌++◌, refl, sym, ap, ◌∙◌, arith, true≢false}
+use Rattle.std.proofs.lemmas.Bool.{and_parts}
 use Rattle.std.specs.List.{list_all}
 use Rattle.js_tree.specs.Lexing.{Place}
 use Rattle.js_tree.specs.Pieces.{Piece, kind}
@@ -13,7 +14,6 @@ use Rattle.js_tokens.proofs.AheadLemmas.{one_next}
 use Rattle.js_tokens.specs.Pieces.{Reads}
 use Rattle.js_tokens.specs.declared.goal.Goal.TheVariants as goal
 use Rattle.js_parser.proofs.ListLemmas.{AllOf}
-use Rattle.js_parser.proofs.ListedLemmas.{both}
 use Rattle.js_parser.proofs.TokenLemmas.{separates_plain, separates_strength}
 use Rattle.js_parser.specs.Following.{Stops, IsStrength, strength}
 use Rattle.js_parser.specs.Nodes.{IsListRank, OperandAt, OperandsAt, further_line, further_stands, further_height}
@@ -36,7 +36,7 @@ operand_is rank room x at = (at.stands, omega (arith, at.height, at.fits))
 all_of : (rank room : ℕ) (xs : List (Further Expr)) → list_all (further_stands rank) xs ≡ true → further_height xs ≤ room → AllOf (IsOperand rank room) xs
 unfolding AllOf
 all_of rank room [] e h = tt
-all_of rank room (x ∷ xs) e h = let s = both _ _ e in ((s.0, omega (arith, h)), all_of rank room xs s.1 (omega (arith, h)))
+all_of rank room (x ∷ xs) e h = let s = and_parts _ _ e in ((s.0, omega (arith, h)), all_of rank room xs s.1 (omega (arith, h)))
 
 pub operands_of : (rank room : ℕ) (x : Tall (List (Further Expr))) → OperandsAt rank room x → AllOf (IsOperand rank room) x.node
 operands_of rank room x at = all_of rank room x.node at.each (omega (arith, at.height, at.fits))

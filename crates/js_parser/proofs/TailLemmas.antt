@@ -1,5 +1,6 @@
 -- Tails: which begins with which token, the names of members, and what is asked of several.
 use Rattle.std.proofs.Common.{◌≡◌, ◌⊎◌, inl, inr, ℕ, ◌≤◌, Bool, true, false, ◌&&◌, ◌||◌, not, List, [], ◌∷◌, refl, sym, ap, ◌∙◌, subst, arith, true≢false}
+use Rattle.std.proofs.lemmas.Bool.{and_from, and_parts}
 use Rattle.std.specs.List.{list_all}
 use Rattle.std.specs.Prelude.{codes}
 use Rattle.std.specs.Str.{bytes_eq}
@@ -30,7 +31,6 @@ use Rattle.js_tree.proofs.SpellingLemmas.{expr_layer, of_expr}
 use Rattle.js_tokens.specs.Ahead.{IsNextKind, reads}
 use Rattle.js_tokens.specs.Pieces.{Reads}
 use Rattle.js_tokens.specs.declared.goal.Goal.TheVariants as goal
-use Rattle.js_parser.proofs.BracketLemmas.{both, joined}
 use Rattle.js_parser.proofs.HeadLemmas.{one_told, plain_told}
 use Rattle.js_parser.proofs.ListLemmas.{AllOf}
 use Rattle.js_parser.proofs.TokenLemmas.{implies, told}
@@ -174,15 +174,15 @@ abbrev pub tall_tail : Tail Expr → Tall (Tail Expr)
 tall_tail t = record { node = t; height = tail_height t }
 
 pub tail_at : (calls : Bool) (room : ℕ) (t : Tail Expr) → IsTail calls room t → TailAt room (tall_tail t)
-tail_at calls room t good = record { stands = (both _ _ good.0).0; height = refl; fits = good.1 }
+tail_at calls room t good = record { stands = (and_parts _ _ good.0).0; height = refl; fits = good.1 }
 
 pub tail_is : (calls : Bool) (room : ℕ) (x : Tall (Tail Expr)) → TailAt room x → may_call calls x.node ≡ true → IsTail calls room x.node
-tail_is calls room x at may = (joined _ _ at.stands may, omega (arith, at.height, at.fits))
+tail_is calls room x at may = (and_from _ _ at.stands may, omega (arith, at.height, at.fits))
 
 all_of : (calls : Bool) (room : ℕ) (ts : List (Tail Expr)) → list_all (λ t. tail_stands t && may_call calls t) ts ≡ true → tallest_of tail_height ts ≤ room → AllOf (IsTail calls room) ts
 unfolding AllOf
 all_of calls room [] e h = tt
-all_of calls room (t ∷ ts) e h = let s = both _ _ e in ((s.0, omega (arith, h)), all_of calls room ts s.1 (omega (arith, h)))
+all_of calls room (t ∷ ts) e h = let s = and_parts _ _ e in ((s.0, omega (arith, h)), all_of calls room ts s.1 (omega (arith, h)))
 
 pub tails_of : (calls : Bool) (room : ℕ) (x : Tall (List (Tail Expr))) → TailsAt calls room x → AllOf (IsTail calls room) x.node
 tails_of calls room x at = all_of calls room x.node at.each (omega (arith, at.height, at.fits))
@@ -190,7 +190,7 @@ tails_of calls room x at = all_of calls room x.node at.each (omega (arith, at.he
 of_all : (calls : Bool) (room : ℕ) (ts : List (Tail Expr)) → AllOf (IsTail calls room) ts → (list_all (λ t. tail_stands t && may_call calls t) ts ≡ true) × (tallest_of tail_height ts ≤ room)
 unfolding AllOf
 of_all calls room [] a = (refl, omega arith)
-of_all calls room (t ∷ ts) a = let m = of_all calls room ts a.1 in (joined _ _ a.0.0 m.0, omega (arith, a.0.1, m.1))
+of_all calls room (t ∷ ts) a = let m = of_all calls room ts a.1 in (and_from _ _ a.0.0 m.0, omega (arith, a.0.1, m.1))
 
 pub tails_at : (calls : Bool) (room height : ℕ) (ts : List (Tail Expr)) → AllOf (IsTail calls room) ts → height ≡ tallest_of tail_height ts → TailsAt calls room (record { node = ts; height = height })
 tails_at calls room height ts a same = let m = of_all calls room ts a in record { each = m.0; height = same; fits = omega (arith, same, m.1) }
@@ -202,7 +202,7 @@ some_tail calls p k next here rest none r =
     true≢false (sym here ∙ ap (begins_tail calls) (sym t.3) ∙ none p r t.0 t.1 t.2 (ap (reads goal.Operator) t.3 ∙ plain_told p t.1 t.0 k next t.2))
 
 pub no_tail : (calls : Bool) (room : ℕ) (p : Place) (k : TokenKind) → IsNextKind p k → begins_tail calls k ≡ false → (t : Tail Expr) (rest : List Piece) → Reads p (tail_line t rest) → IsTail calls room t → ⊥
-no_tail calls room p k next other t rest r good = by_kind calls t (tail_begins p t rest k next r) other (both _ _ good.0).1
+no_tail calls room p k next other t rest r good = by_kind calls t (tail_begins p t rest k next r) other (and_parts _ _ good.0).1
   where
     by_kind : (calls : Bool) (t : Tail Expr) → begins t k → begins_tail calls k ≡ false → may_call calls t ≡ true → ⊥
     by_kind calls (tail.Member dot name) h e may = true≢false (sym (ap (begins_tail calls) h) ∙ e)

@@ -1,5 +1,6 @@
 -- The substitutions of a template, read one by one, each with the part behind it.
 use Rattle.std.proofs.Common.{◌≡◌, ◌⊎◌, ⊎_elim, inl, inr, ℕ, zero, suc, ◌≤◌, max, Bool, true, false, not, List, [], ◌∷◌, ◌++◌, refl, sym, ap, ◌∙◌, subst, arith, append_assoc, get_or, true≢false, Result, Ok, Err, IfOk}
+use Rattle.std.proofs.lemmas.Bool.{and_from, and_parts}
 use Rattle.std.specs.List.{list_all}
 use Rattle.js_tree.specs.declared.lists.Listed.{Listed}
 use Rattle.js_tree.specs.declared.lists.Template.{Template}
@@ -23,7 +24,6 @@ use Rattle.js_tokens.specs.Ahead.{Blind, IsNextKind, IsTwin, reads}
 use Rattle.js_tokens.specs.Pieces.{Reads, Read, Passes}
 use Rattle.js_tokens.specs.declared.fault.TokenFault.{TokenFault}
 use Rattle.js_tokens.specs.declared.goal.Goal.TheVariants as goal
-use Rattle.js_parser.proofs.BracketLemmas.{both, joined}
 use Rattle.js_parser.proofs.ExprLemmas.{value_of, value_at}
 use Rattle.js_parser.proofs.HeadLemmas.{one_told, plain_told}
 use Rattle.js_parser.proofs.ListLemmas.{AllOf, good-push}
@@ -124,12 +124,12 @@ mark_part (x ∷ xs) k e = ap is_part (is_same kinds.TemplateMiddle k e)
 -- what fails for each kind of a table fails for the kind at each place of it
 none_at : (test : TokenKind → Bool) (ks : List TokenKind) (i : ℕ) → list_all (λ k. not (test k)) ks ≡ true → false ≡ test kinds.End → false ≡ test (get_or ks i kinds.End)
 none_at test [] i each end = end
-none_at test (k ∷ ks) zero each end = by_test (test k) (both (not (test k)) _ each).0
+none_at test (k ∷ ks) zero each end = by_test (test k) (and_parts (not (test k)) _ each).0
   where
     by_test : (b : Bool) → not b ≡ true → false ≡ b
     by_test false e = refl
     by_test true e = absurd (true≢false (sym e))
-none_at test (k ∷ ks) (suc i) each end = none_at test ks i (both (not (test k)) _ each).1 end
+none_at test (k ∷ ks) (suc i) each end = none_at test ks i (and_parts (not (test k)) _ each).1 end
 
 -- a token of another class isn't a part before a further substitution
 pub no_middle : (c : TokenClass) (text : List ℕ) → (c ≡ class.TemplateMiddle → ⊥) → false ≡ is kinds.TemplateMiddle (kind_in c text)
@@ -177,7 +177,7 @@ substitution_at room x at = value_at 0 room x.item at.0 at.1
 all_of : (room : ℕ) (xs : List (Listed Expr)) → list_all substitution_stands xs ≡ true → tallest_of part_height xs ≤ room → AllOf (IsSubstitution room) xs
 unfolding AllOf
 all_of room [] e h = tt
-all_of room (x ∷ xs) e h = let s = both _ _ e in ((s.0, omega (arith, h)), all_of room xs s.1 (omega (arith, h)))
+all_of room (x ∷ xs) e h = let s = and_parts _ _ e in ((s.0, omega (arith, h)), all_of room xs s.1 (omega (arith, h)))
 
 pub substitutions_of : (room : ℕ) (x : Tall (List (Listed Expr))) → SubstitutionsAt room x → AllOf (IsSubstitution room) x.node
 substitutions_of room x at = all_of room x.node at.each (omega (arith, at.height, at.fits))
@@ -185,7 +185,7 @@ substitutions_of room x at = all_of room x.node at.each (omega (arith, at.height
 of_all : (room : ℕ) (xs : List (Listed Expr)) → AllOf (IsSubstitution room) xs → (list_all substitution_stands xs ≡ true) × (tallest_of part_height xs ≤ room)
 unfolding AllOf
 of_all room [] a = (refl, omega arith)
-of_all room (x ∷ xs) a = let m = of_all room xs a.1 in (joined _ _ a.0.0 m.0, omega (arith, a.0.1, m.1))
+of_all room (x ∷ xs) a = let m = of_all room xs a.1 in (and_from _ _ a.0.0 m.0, omega (arith, a.0.1, m.1))
 
 pub substitutions_at : (room height : ℕ) (xs : List (Listed Expr)) → AllOf (IsSubstitution room) xs → is_empty xs ≡ false → height ≡ tallest_of part_height xs → SubstitutionsAt room (record { node = xs; height = height })
 substitutions_at room height xs a some same = let m = of_all room xs a in record { each = m.0; some = some; height = same; fits = omega (arith, same, m.1) }
