@@ -8,10 +8,11 @@ use Rattle.js_tree.specs.declared.token.Token.{Token}
 use Rattle.js_tree.specs.declared.tree.Tree.{Tree}
 use Rattle.js_tree.specs.Lexing.{Place, Next, LexesTo, start_of}
 use Rattle.js_tree.specs.Spells.{Spells, limit}
+use Rattle.js_parser.specs.declared.fault.Construct.{Construct}
 use Rattle.js_parser.specs.declared.fault.ParseFault.{ParseFault}
 use Rattle.js_parser.specs.declared.fault.ParseFault.TheVariants as fault
-use Rattle.js_parser.specs.Answers.{TellsTooLarge, IsPlaced, IsTree}
-use Rattle.js_parser.specs.Reading.{IsStop}
+use Rattle.js_parser.specs.Answers.{TellsTooLarge, IsTree}
+use Rattle.js_tokens.specs.Pieces.{IsStop}
 use Rattle.jam_app.specs.Refusals.{IsRefusedAt, not_ascii, stopped}
 use Rattle.jam_app.specs.Texts.{is_ascii, IsOnlyTree, IsBad}
 
@@ -42,28 +43,34 @@ lexes_within (t ∷ ts) p q l = lexes_within ts l.0 q l.2 ∙ after_within p t l
 pub stop_within : (text : List ℕ) (at : ℕ) → IsStop (start_of text) at → at ≤ length text
 stop_within text at stop =
     let all : stop.reached.at + length stop.reached.left ≡ 0 + length text = lexes_within stop.tokens (start_of text) stop.reached stop.lexes in
-    omega (arith, stop.place, stop.trivia.within)
+    omega (arith, stop.start.place, stop.start.trivia.within)
 
 -- a byte that isn't ASCII
 pub bad_bytes : (bytes : List ℕ) (at : ℕ) → is_ascii bytes ≡ false → length bytes ≤ limit → at ≡ 0 → IsBad bytes × (length bytes ≤ limit) × IsRefusedAt bytes at
 bad_bytes bytes at other small first =
     (λ tree spelled. true≢false (sym spelled.ascii ∙ other), small, subst (IsRefusedAt bytes) (sym first) (not_ascii other))
 
-no_size : (n at : ℕ) → ◌≡◌ {A = Result Tree ParseFault} (Err (fault.NotInProfile at)) (Err (fault.TooLarge n)) → ⊥
-no_size n at e = cc
+-- reading stopped at the offset, at a construct or elsewhere
+pub data StopsAt (at : ℕ) : ParseFault → Type 0 where
+  elsewhere : StopsAt at (fault.NotInProfile at)
+  construct : (what : Construct) → StopsAt at (fault.Construct at what)
+
+no_size : (n at : ℕ) (f : ParseFault) → StopsAt at f → ◌≡◌ {A = Result Tree ParseFault} (Err f) (Err (fault.TooLarge n)) → ⊥
+no_size n at _ elsewhere e = cc
+no_size n at _ (construct what) e = cc
 
 -- a text over the limit is TooLarge, so any other is within it
-within_limit : (text : List ℕ) (at : ℕ) (r : Result Tree ParseFault) → TellsTooLarge text r → r ≡ Err (fault.NotInProfile at) → length text ≤ limit
-within_limit text at r tells is = ⊎_elim
-    (λ (over : limit < length text). absurd (no_size (length text) at (sym is ∙ tells.over over)))
+within_limit : (text : List ℕ) (at : ℕ) (f : ParseFault) (r : Result Tree ParseFault) → StopsAt at f → TellsTooLarge text r → r ≡ Err f → length text ≤ limit
+within_limit text at f r stops tells is = ⊎_elim
+    (λ (over : limit < length text). absurd (no_size (length text) at f stops (sym is ∙ tells.over over)))
     (λ (within : length text ≤ limit). within)
     (cases_lt limit (length text))
 
 -- a text that no tree spells
-pub bad_text : (text : List ℕ) (at offset : ℕ) (r : Result Tree ParseFault) → is_ascii text ≡ true → TellsTooLarge text r → r ≡ Err (fault.NotInProfile at)
+pub bad_text : (text : List ℕ) (at offset : ℕ) (f : ParseFault) (r : Result Tree ParseFault) → StopsAt at f → is_ascii text ≡ true → TellsTooLarge text r → r ≡ Err f
     → IsStop (start_of text) at → ((tree : Tree) → Spells text tree → ⊥) → offset ≡ at → IsBad text × (length text ≤ limit) × IsRefusedAt text offset
-bad_text text at offset r ascii tells told stop none is =
-    (λ tree spelled. none tree spelled.spells, within_limit text at r tells told, subst (IsRefusedAt text) (sym is) (stopped at ascii stop))
+bad_text text at offset f r stops ascii tells told stop none is =
+    (λ tree spelled. none tree spelled.spells, within_limit text at f r stops tells told, subst (IsRefusedAt text) (sym is) (stopped at ascii stop))
 
 -- the tree is the only one
 pub one_tree : (text : List ℕ) (tree : Tree) (r : Result Tree ParseFault) → is_ascii text ≡ true → r ≡ Ok tree → Spells text tree
@@ -74,5 +81,5 @@ one_tree text tree r ascii is spells only = record {
 }
 
 -- so reading stops at an offset that a place can have
-pub small_stop : (text : List ℕ) (at : ℕ) (r : Result Tree ParseFault) → TellsTooLarge text r → IsPlaced text r → r ≡ Err (fault.NotInProfile at) → at < 4294967295
-small_stop text at r tells placed is = omega (arith, stop_within text at (placed at is), within_limit text at r tells is)
+pub small_stop : (text : List ℕ) (at : ℕ) (f : ParseFault) (r : Result Tree ParseFault) → StopsAt at f → TellsTooLarge text r → IsStop (start_of text) at → r ≡ Err f → at < 4294967295
+small_stop text at f r stops tells stop is = omega (arith, stop_within text at stop, within_limit text at f r stops tells is)

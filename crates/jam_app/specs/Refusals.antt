@@ -2,7 +2,7 @@
 use Rattle.std.specs.Prelude.{◌≡◌, ℕ, ◌+◌, ◌<◌, ◌≤◌, List, [], ◌∷◌, ◌++◌, length, Some, None, true, false, nat_lt, if◌then◌else◌}
 use Rattle.js_tree.specs.Lexing.{start_of}
 use Rattle.js_tree.specs.Spells.{limit}
-use Rattle.js_parser.specs.Reading.{IsStop}
+use Rattle.js_tokens.specs.Pieces.{IsStop}
 use Rattle.jam_base.specs.Files.{Files}
 use Rattle.jam_app.specs.Entries.{entry_path}
 use Rattle.jam_app.specs.Texts.{IsBad, is_ascii}

@@ -1,17 +1,17 @@
 //! A whole text as a tree.
-ghost use Rattle.std.specs.Prelude.{◌≡◌, ◌+◌, ◌≤◌, length, IfOk, IfErr, nat_le, if◌then◌else◌};
+ghost use Rattle.std.specs.Prelude.{◌≡◌, ◌+◌, ◌≤◌, length, drop, IfOk, IfErr, IfSome, nat_le, if◌then◌else◌};
 ghost use Rattle.js_tree.specs.declared.tree.Tree.{Tree};
 ghost use Rattle.js_tree.specs.Lexing.{start_of};
 ghost use Rattle.js_tree.specs.Spells.{Spells, limit};
 ghost use Rattle.js_tokens.specs.Pieces.{Gives, Refuses};
 ghost use Rattle.js_tokens.specs.declared.fault.TokenFault.TheVariants as unread;
-ghost use Rattle.js_parser.specs.Answers.{IsFaultOf, IsTree, TellsTooLarge, IsPlaced, IsAtCharacter, IsUnspelled};
+ghost use Rattle.js_parser.specs.Answers.{Begins, IsFaultOf, IsTree, NamesConstruct, word_of, TellsTooLarge, IsPlaced, IsAtCharacter, IsUnspelled};
 
 use crate::fault::{Construct, ParseFault};
 use crate::knot::stmts;
 use crate::tall::Tall;
 use jam_base::Steps;
-use js_tokens::{TokenFault, TokenReader};
+use js_tokens::{Goal, Lexer, Raw, TokenFault, TokenReader};
 use js_tree::Tree;
 use std::alloc::Global;
 use std::sync::ledger::Ledger;
@@ -43,7 +43,9 @@ fn tree(alloc: Global, text: &str) -> Result<Tree, TokenFault>
 
 // The fault of the parser for a fault of reading.
 fn fault_of(text: &str, fault: TokenFault) -> ParseFault
-    ensures { IsFaultOf fault result }
+    requires few { length text.now ≤ limit }
+    ensures fault { IsFaultOf fault result }
+    ensures construct { NamesConstruct text.now result }
 {
     match fault {
         TokenFault::OutOfMemory => ParseFault::OutOfMemory,
@@ -53,7 +55,9 @@ fn fault_of(text: &str, fault: TokenFault) -> ParseFault
 
 // Reading stopped at the offset.
 fn stop_at(text: &str, at: u32) -> ParseFault
-    ensures { IsFaultOf (unread.Unexpected at) result }
+    requires few { length text.now ≤ limit }
+    ensures fault { IsFaultOf (unread.Unexpected at) result }
+    ensures construct { NamesConstruct text.now result }
 {
     match construct_at(text, at as usize) {
         Some(what) => ParseFault::Construct { at, what },
@@ -61,28 +65,52 @@ fn stop_at(text: &str, at: u32) -> ParseFault
     }
 }
 
-// The construct whose word stands at the offset.
-fn construct_at(text: &str, at: usize) -> Option<Construct> {
-    let Some(rest) = text.get(at..) else {
-        return None;
-    };
-    let mut word = rest;
-    if let Some((first, _)) = rest.split_once(|c: char| !c.is_ascii_alphabetic()) {
-        word = first;
+// The construct whose word is the next token from the offset on.
+fn construct_at(text: &str, at: usize) -> Option<Construct>
+    requires few { length text.now ≤ limit }
+    ensures { IfSome result (Begins (drop at text.now)) }
+{
+    match text.get(at..) {
+        Some(rest) => construct_in(rest),
+        None => None,
     }
-    match word {
-        "eval" => Some(Construct::Eval),
-        "with" => Some(Construct::With),
-        "import" => Some(Construct::Import),
-        "export" => Some(Construct::Export),
-        _ => None,
+}
+
+// The construct whose word is the token at the front of the text.
+fn construct_in(text: &str) -> Option<Construct>
+    requires few { length text.now ≤ limit }
+    ensures { IfSome result (Begins text.now) }
+{
+    match Lexer::new(text).peek(Goal::Operator) {
+        Ok(next) => construct_of(next),
+        Err(_) => None,
+    }
+}
+
+// The construct whose word the token is, if it stands at the front of its text.
+fn construct_of(next: Raw<'_>) -> Option<Construct>
+    ensures { IfSome result (λ what. (next.start ≡ 0) × (next.text.now ≡ word_of what)) }
+{
+    if next.start != 0 {
+        return None;
+    }
+    if next.text == "eval" {
+        Some(Construct::Eval)
+    } else if next.text == "with" {
+        Some(Construct::With)
+    } else if next.text == "import" {
+        Some(Construct::Import)
+    } else if next.text == "export" {
+        Some(Construct::Export)
+    } else {
+        None
     }
 }
 
 /// The tree that spells the text (ECMA-262, clauses 11 to 15, as far as the profile goes).
 ///
-/// A text over 8,388,608 bytes is `TooLarge`, with its length. Where no tree spells the text, the answer is `Construct`
-/// or `NotInProfile` with the offset in bytes at which reading stopped. `steps` rises by the length of a text within the
+/// A text over 8,388,608 bytes is `TooLarge`, with its length. Where no tree spells the text, the answer is `NotInProfile`
+/// with the offset in bytes at which reading stopped, or `Construct` where the next token there is a construct's word. `steps` rises by the length of a text within the
 /// limit, whatever the answer, and by nothing otherwise.
 pub fn parse<L: Ledger>(alloc: Global, text: &str, steps: &mut Steps<L>) -> Result<Tree, ParseFault>
     ensures found { IfOk result (λ tree. Spells text.now tree) }
@@ -91,6 +119,7 @@ pub fn parse<L: Ledger>(alloc: Global, text: &str, steps: &mut Steps<L>) -> Resu
     ensures placed { IsPlaced text.now result }
     ensures at_character { IsAtCharacter text.now result }
     ensures unspelled { IsUnspelled text.now result }
+    ensures construct { IfErr result (NamesConstruct text.now) }
     ensures cost { steps.new ≡ steps.old + (if nat_le (length text.now) limit then length text.now else 0) }
 {
     if text.len() > LIMIT {
