@@ -1,7 +1,9 @@
-use Rattle.std.proofs.Common.{Some, None, ◌∷◌, ap, sym, ◌∙◌}
+use Rattle.std.proofs.Common.{◌≡◌, ◌-◌, Some, None, ◌∷◌, ap, arith, length, slice_get, sym, ◌∙◌}
+use denote.Param.Weighed.{at_most}
+use Rattle.std.proofs.lemmas.Option.{get_or_from_slice_get, slice_get_within}
 use Rattle.std.proofs.lemmas.Result.{IfOk-weaker}
 use Rattle.js_tree.specs.declared.lists.Further.{Further}
-use Rattle.js_tree.specs.declared.tree.Expr.{Expr}
+use Rattle.js_tree.specs.declared.tree.Expr.{Expr, size-Expr}
 use Rattle.js_scopes.proofs.Layers.{is-Assign, is-Binary, is-Chain, is-Comma, is-Cond, is-Fun, is-Name, is-New, is-Paren}
 use Rattle.flow_rules.specs.AtHand.{facts_in}
 use Rattle.flow_rules.specs.Values.{assigned_value, choice_mark, front_of, function_vertex, joined_vertex, last_value, operands_value, tail_vertex, value, value_up_to}
@@ -90,3 +92,14 @@ value_up_to-returns-in_ok-vertex-in-Some t c =
     let tails = c.args.tails.now in
     ap Some (c.in_ok-vertex-in-Some.ensures {u = tt} ∙ ap (λ ts. tail_vertex facts head ts c.in-Some.tail.now) c.front_of.ensures)
     ∙ ap (λ o. elim o [ None ↦ value facts head | Some u ↦ Some (tail_vertex facts head (front_of tails) u) ]) c.in-Some.ensures.value
+
+pub last_value-value_of-requires-in-Some : goal.last_value-value_of-requires-in-Some
+last_value-value_of-requires-in-Some t c =
+    let rest = c.args.rest.now in
+    let x = c.in-Some.further.now in
+    let there : slice_get rest (length rest - 1) ≡ Some x = sym c.in-Some.ensures.value in
+    let weight = λ (y : Further Expr). size-Expr y.item in
+    let a = at_most weight rest (length rest - 1) x (slice_get_within rest (length rest - 1) x there) in
+    let b = ap weight (get_or_from_slice_get rest (length rest - 1) x x there) in
+    let d = ap size-Expr c.get.ensures in
+    (omega (arith, a, b, d), tt)
