@@ -181,16 +181,19 @@ calls_once offset part holder member start count = by member
     by None = of_other false []
     by (Some name) = of_other (is_reflected name) name
 
-one_once : (offset part holder start count : ℕ) (t : Token) (ts : List Token) → t.start ≡ start
-    → count_by (is_at offset part) (site_at holder start count ∷ []) ≤ count_by (λ (u : Token). u.start == offset) (t ∷ ts)
-one_once offset part holder start count t ts e =
-    let a = calls_once offset part holder None start count in
-    let b = count_cons (λ (u : Token). u.start == offset) t ts in
-    let c = ap (λ k. one_if (nat_eq k offset)) e in
-    omega (arith, a, b, c)
+-- the first of some tokens counts where it starts
+first_counts : (offset : ℕ) (t : Token) (all rest : List Token) → all ≡ t ∷ rest → one_if (nat_eq t.start offset) ≤ count_by (λ (u : Token). u.start == offset) all
+first_counts offset t all rest e =
+    let at = λ (u : Token). u.start == offset in
+    let a = count_cons at t rest in
+    let b = ap (count_by at) e in
+    omega (arith, a, b)
 
 expr_once : (offset part holder : ℕ) (l : ExprLayer) → count_by (is_at offset part) (sites_of_expr holder l) ≤ count_by (λ (t : Token). t.start == offset) (tokens_among (expr_row items l []))
-expr_once offset part holder (Expr-F.New word head tails args) = one_once offset part holder word.start (length (placed (made_with args))) word _ refl
+expr_once offset part holder (Expr-F.New word head tails args) =
+    let a = calls_once offset part holder None word.start (length (placed (made_with args))) in
+    let b = first_counts offset word (tokens_among (expr_row items (Expr-F.New word head tails args) [])) _ refl in
+    omega (arith, a, b)
 expr_once offset part holder _ = omega arith
 
 -- a token of its own for each site of a node
@@ -202,9 +205,12 @@ own_once known offset part (ATail head before (tail.Call a)) c = by (is_required
     by true = omega arith
     by false =
         let d = calls_once offset part c (last_member before) a.open.start (length (placed (elements a))) in
-        let e = count_cons (λ (t : Token). t.start == offset) a.open _ in
+        let e = first_counts offset a.open (own_tokens (ATail head before (tail.Call a))) _ refl in
         omega (arith, d, e)
-own_once known offset part (ATail head before (tail.Template t)) c = one_once offset part c t.head.start (length t.parts + 1) t.head _ refl
+own_once known offset part (ATail head before (tail.Template t)) c =
+    let a = calls_once offset part c None t.head.start (length t.parts + 1) in
+    let b = first_counts offset t.head (own_tokens (ATail head before (tail.Template t))) _ refl in
+    omega (arith, a, b)
 own_once known offset part (ATail head before (tail.Member dot name)) c = omega arith
 own_once known offset part (ATail head before (tail.Index begin value end)) c = omega arith
 own_once known offset part _ c = omega arith
@@ -217,7 +223,7 @@ starts_at offset f = nat_eq f.start offset
 function_once : (offset : ℕ) (l : FunctionLayer) (given : Option Token) → count_by (starts_at offset) (info_in l given ∷ []) ≤ count_by (λ (t : Token). t.start == offset) (tokens_among (function_row items l []))
 function_once offset (Function-F.Keyword word name params body) given =
     let a = count_cons (starts_at offset) (info_in (Function-F.Keyword word name params body) given) [] in
-    let b = count_cons (λ (t : Token). t.start == offset) word _ in
+    let b = first_counts offset word (tokens_among (function_row items (Function-F.Keyword word name params body) [])) _ refl in
     omega (arith, a, b)
 
 pub functions_once : (offset : ℕ) (n : Node) (given : Option Token) → count_by (starts_at offset) (own_functions n given) ≤ count_by (λ (t : Token). t.start == offset) (own_tokens n)

@@ -1,8 +1,8 @@
 -- Where the values of each kind of expression stand.
-use Rattle.std.proofs.Common.{◌≡◌, ℕ, suc, ◌-◌, List, [], ◌∷◌, ◌++◌, map, length, length-append, slice_get, get_or, take, refl, sym, ap, ◌∙◌, arith, Option, Some, None}
+use Rattle.std.proofs.Common.{◌≡◌, ℕ, zero, suc, ◌-◌, ◌<◌, ◌≤◌, Bool, List, [], ◌∷◌, ◌++◌, map, length, length-append, slice_get, get_or, take, refl, sym, ap, ◌∙◌, arith, Option, Some, None}
 use Rattle.std.specs.Option.{option_map, unwrap_or}
 use Rattle.std.proofs.lemmas.List.{length-map}
-use Rattle.std.proofs.lemmas.Option.{slice_get-get_or, slice_get-map}
+use Rattle.std.proofs.lemmas.Option.{none-some, same_Some, slice_get-get_or, slice_get-map}
 use Rattle.js_tree.specs.declared.lists.Arm.{Arm}
 use Rattle.js_tree.specs.declared.lists.Bracket.{Bracket}
 use Rattle.js_tree.specs.declared.lists.Further.{Further}
@@ -19,13 +19,13 @@ use Rattle.js_tree.specs.declared.tree.Pattern.{Pattern, out-Pattern}
 use Rattle.js_tree.specs.declared.tree.Pattern.TheVariants as bound
 use Rattle.js_tree.specs.Folds.{ExprLayer, PatternLayer}
 use Rattle.js_tree.specs.Operators.{is_binary}
-use Rattle.js_tree.specs.Parts.{AnExpr, AFunction, APattern, folded, nodes}
+use Rattle.js_tree.specs.Parts.{Node, AnExpr, AFunction, APattern, folded, height, nodes}
 use Rattle.js_tree.specs.Spelling.Expressions.{expr_row}
 use Rattle.js_tree.specs.Spelling.Nodes.{unmarked}
 use Rattle.js_tree.specs.Spelling.Patterns.{pattern_row}
 use Rattle.js_tree.specs.Spelling.Rows.{each_of, further_row}
 use Rattle.js_tree.specs.TokenKinds.{is}
-use Rattle.js_tree.proofs.PartLemmas.{folded_is}
+use Rattle.js_tree.proofs.PartLemmas.{folded_is, highest, parts_below}
 use Rattle.js_scopes.specs.Brackets.{last_of}
 use Rattle.flow_rules.specs.declared.vertex.Vertex.{Vertex}
 use Rattle.flow_rules.specs.Values.{Facts, assigned_value, choice_mark, front_of, function_vertex, joined_vertex, last_value, operands_value, place, place_in_pattern, result_vertex, tail_vertex, token_vertex, value, value_in, value_step, value_up_to}
@@ -64,6 +64,26 @@ module _ {X Y : Type 0} (f : X → Y) (v d : Y) where
       let there : last_of (y ∷ ys) ≡ Some (get_or (y ∷ ys) (length ys) y) = ap (slice_get (y ∷ ys)) k ∙ slice_get-get_or (y ∷ ys) (length ys) y (omega arith) in
       let made : last_of (v ∷ map f (y ∷ ys)) ≡ option_map f (slice_get (y ∷ ys) (length ys)) = ap (slice_get (v ∷ map f (y ∷ ys))) m ∙ slice_get-map f (y ∷ ys) (length ys) in
       ap by_last (e ∙ there) ∙ sym (ap (λ p. unwrap_or p d) (made ∙ ap (option_map f) (slice_get-get_or (y ∷ ys) (length ys) y (omega arith))))
+
+-- HEIGHTS
+
+-- further operands as nodes
+abbrev pub operand_nodes : List (Further Expr) → List Node
+operand_nodes = map (λ x. AnExpr x.item)
+
+pub operands_are : (test : TokenKind → Bool) (xs : List (Further Expr)) → each_of (further_row unmarked nodes.expr test) xs [] ≡ operand_nodes xs
+operands_are test [] = refl
+operands_are test (x ∷ xs) = ap (λ ns. AnExpr x.item ∷ ns) (operands_are test xs)
+
+-- parts of an expression that are these are lower than it
+pub lower : (x : Expr) (l : ExprLayer) (ns : List Node) → out-Expr x ≡ l → expr_row nodes l [] ≡ ns → highest ns < height (AnExpr x)
+lower x l ns e same = let a = parts_below (AnExpr x) in let b = ap highest (ap (λ (y : ExprLayer). expr_row nodes y []) e ∙ same) in omega (arith, a, b)
+
+-- none of them is higher than the highest
+pub none_higher : (xs : List (Further Expr)) (x : Further Expr) (k : ℕ) → slice_get xs k ≡ Some x → height (AnExpr x.item) ≤ highest (operand_nodes xs)
+none_higher [] x k e = absurd (none-some x e)
+none_higher (y ∷ ys) x zero e = let a = ap (λ (z : Further Expr). height (AnExpr z.item)) (same_Some y x e) in omega (arith, a)
+none_higher (y ∷ ys) x (suc k) e = let a = none_higher ys x k e in omega (arith, a)
 
 module _ (facts : Facts) where
   abbrev made : ExprLayer → List (Option Vertex)

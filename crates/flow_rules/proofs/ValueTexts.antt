@@ -4,11 +4,10 @@ use Rattle.std.specs.Char.Escape.{encode_utf16}
 use Rattle.std.specs.Char.Utf16.{has_unpaired_surrogate, is_high_surrogate, is_low_surrogate, lone_unit_char, surrogate_pair_char, utf16_chars, utf16_lossy_chars}
 use Rattle.std.specs.List.{fold}
 use Rattle.std.specs.Option.{unwrap_or}
-use Rattle.std.specs.Str.{chars, encode_utf8_all}
+use Rattle.std.specs.Str.{chars, chars_after, continuation_len, encode_utf8_all, lead_bits}
 use Rattle.std.proofs.Math.Utf8.{encode}
 use Rattle.std.proofs.lemmas.List.{length-drop, length-map}
 use Rattle.std.proofs.lemmas.Str.{length-encode}
-use Rattle.jam_base.proofs.Walks.{chars-length}
 use Rattle.js_tree.specs.declared.escape.ValuePart.{ValuePart}
 use Rattle.js_tree.specs.declared.escape.ValuePart.TheVariants as part
 use Rattle.js_tree.specs.Lexical.Value.{between, may_end, next, step, text_of, units_from, units_in, units_of, value_in, value_of}
@@ -93,12 +92,24 @@ value_few cs = by (may_end (fold next part.Plain cs))
     by true = let a = units_few part.Plain cs in more (4 * length (units_from part.Plain cs)) (8 * length cs) (text_of (units_from part.Plain cs)) (omega (arith, a)) (text_few (units_from part.Plain cs))
     by false = tt
 
+characters_after : (n c : ℕ) (bs : List ℕ) → length (chars_after n c bs) ≤ length bs + 1
+characters_after zero c [] = omega arith
+characters_after zero c (b ∷ bs) = omega (arith, characters_after (continuation_len b) (lead_bits b) bs)
+characters_after (suc n) c [] = omega arith
+characters_after (suc n) c (b ∷ bs) = omega (arith, characters_after n (c * 64 + (b - 128)) bs)
+
+-- a text has no more characters than bytes
+characters_few : (bs : List ℕ) → length (chars bs) ≤ length bs
+unfolding chars
+characters_few [] = omega arith
+characters_few (b ∷ bs) = omega (arith, characters_after (continuation_len b) (lead_bits b) bs)
+
 -- the value of a string of a text is short
 pub short_value : (text : List ℕ) → length text ≤ limit → IsShortIfAny (value_of text)
 short_value text le = by (value_of text) (value_few (between (chars text)))
   where
     within : length (between (chars text)) ≤ length text
-    within = let a = chars-length text in let b = length-drop 1 (chars text) in let c = take_few (length (chars text) - 2) (drop 1 (chars text)) in omega (arith, a, b, c)
+    within = let a = characters_few text in let b = length-drop 1 (chars text) in let c = take_few (length (chars text) - 2) (drop 1 (chars text)) in omega (arith, a, b, c)
 
     by : (o : Option (List ℕ)) → IsAtMost (8 * length (between (chars text))) o → IsShortIfAny o
     by None h = tt

@@ -1,6 +1,6 @@
 //! The arguments of calls, by where their values stand.
-ghost use Rattle.std.specs.Prelude.{◌≡◌, map, IfOk};
-ghost use Rattle.js_scopes.specs.Brackets.{elements};
+ghost use Rattle.std.specs.Prelude.{◌≡◌, ◌++◌, map, IfOk, OnOk};
+ghost use Rattle.js_scopes.specs.Brackets.{elements, listed};
 ghost use Rattle.js_scopes.specs.Calls.{made_with};
 ghost use Rattle.flow_rules.specs.AtHand.{facts_in};
 ghost use Rattle.flow_rules.specs.Calls as calls;
@@ -9,7 +9,7 @@ use crate::Vertex;
 use crate::facts::Facts;
 use crate::values::value_of;
 use jam_base::OutOfMemory;
-use js_tree::{Bracket, Element, Expr, Template};
+use js_tree::{Bracket, Element, Expr, Listed, Template};
 use sqlite_items::Boxed;
 use std::alloc::Global;
 
@@ -30,14 +30,42 @@ pub(crate) fn arguments_of(
 ) -> Result<Vec<Argument>, OutOfMemory>
     ensures { IfOk result (λ made. made.items ≡ map (calls.argument_of (facts_in facts.now)) (elements items.now)) }
 {
+    let mut found = arguments_in_front(alloc, facts, items.front.as_slice())?;
+    push_last(alloc, facts, &items.last, &mut found)?;
+    Ok(found)
+}
+
+// Those with a comma behind them.
+fn arguments_in_front(
+    alloc: Global,
+    facts: &Facts<'_>,
+    front: &[Listed<Element<Boxed<Expr>>>],
+) -> Result<Vec<Argument>, OutOfMemory>
+    ensures { IfOk result (λ made. made.items ≡ map (λ x. calls.argument_of (facts_in facts.now) x.item) front.now) }
+{
     let mut found = Vec::new(alloc);
-    for listed in items.front.as_slice() {
+    for listed in front {
         found.push(argument_of(alloc, facts, &listed.item)?)?;
     }
-    if let Some(element) = &items.last {
-        found.push(argument_of(alloc, facts, element)?)?;
-    }
     Ok(found)
+}
+
+// Adds the last one, where it has no comma.
+fn push_last(
+    alloc: Global,
+    facts: &Facts<'_>,
+    last: &Option<Element<Boxed<Expr>>>,
+    found: &mut Vec<Argument>,
+) -> Result<(), OutOfMemory>
+    ensures { OnOk result (found.new.items ≡ found.old.items ++ map (calls.argument_of (facts_in facts.now)) (listed last.now)) }
+{
+    match last {
+        None => Ok(()),
+        Some(element) => {
+            found.push(argument_of(alloc, facts, element)?)?;
+            Ok(())
+        }
+    }
 }
 
 fn argument_of(

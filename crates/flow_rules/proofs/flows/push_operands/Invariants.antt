@@ -8,4 +8,4 @@ use Rattle.flow_rules.proofs.flows.push_operands.Given as goal
 
 abbrev pub invariant-loop-further : goal.invariant-loop-further
 invariant-loop-further l =
-    l.out.items ≡ (l.initial.out.items ++ joined_flow (facts_in l.facts) l.mark l.first) ++ flat_map (λ (x : Further Expr). joined_flow (facts_in l.facts) l.mark x.item) (take l.further-index l.rest)
+    l.out.items ≡ (l.fn.out.items ++ joined_flow (facts_in l.facts) l.mark l.first) ++ flat_map (λ (x : Further Expr). joined_flow (facts_in l.facts) l.mark x.item) (take l.further-index l.rest)

@@ -1,11 +1,18 @@
-use Rattle.std.proofs.Common.{Some, None, ◌∷◌, ap, sym, ◌∙◌}
+use Rattle.std.proofs.Common.{◌≡◌, [], Some, None, ◌∷◌, ap, arith, refl, sym, ◌∙◌}
 use Rattle.std.proofs.lemmas.Result.{IfOk-weaker}
 use Rattle.js_tree.specs.declared.lists.Further.{Further}
-use Rattle.js_tree.specs.declared.tree.Expr.{Expr}
+use Rattle.js_tree.specs.declared.token_kind.TokenKind.TheVariants as kind
+use Rattle.js_tree.specs.declared.tree.Expr.{Expr, out-Expr}
+use Rattle.js_tree.specs.declared.tree.Expr.TheOpen.{Expr-F}
+use Rattle.js_tree.specs.declared.tree.Expr.TheVariants.{outs-Assign, outs-Binary, outs-Chain, outs-Comma, outs-Paren}
+use Rattle.js_tree.specs.Operators.{is_binary}
+use Rattle.js_tree.specs.Parts.{AnExpr, APattern, height, tails_behind}
+use Rattle.js_tree.specs.TokenKinds.{is}
+use Rattle.js_tree.proofs.PartLemmas.{highest}
 use Rattle.js_scopes.proofs.Layers.{is-Assign, is-Binary, is-Chain, is-Comma, is-Cond, is-Fun, is-Name, is-New, is-Paren}
 use Rattle.flow_rules.specs.AtHand.{facts_in}
 use Rattle.flow_rules.specs.Values.{assigned_value, choice_mark, front_of, function_vertex, joined_vertex, last_value, operands_value, tail_vertex, value, value_up_to}
-use Rattle.flow_rules.proofs.ValueLemmas.{at-Assign, at-Binary, at-Chain, at-Comma, at-Cond, at-Fun, at-Name, at-New, at-Paren, at-others, last_by, values_of}
+use Rattle.flow_rules.proofs.ValueLemmas.{at-Assign, at-Binary, at-Chain, at-Comma, at-Cond, at-Fun, at-Name, at-New, at-Paren, at-others, last_by, lower, operand_nodes, operands_are, values_of}
 use Rattle.flow_rules.proofs.values.+value.Goals as goal
 
 pub value_of-returns-in-Name : goal.value_of-returns-in-Name
@@ -90,3 +97,42 @@ value_up_to-returns-in_ok-vertex-in-Some t c =
     let tails = c.args.tails.now in
     ap Some (c.in_ok-vertex-in-Some.ensures {u = tt} ∙ ap (λ ts. tail_vertex facts head ts c.in-Some.tail.now) c.front_of.ensures)
     ∙ ap (λ o. elim o [ None ↦ value facts head | Some u ↦ Some (tail_vertex facts head (front_of tails) u) ]) c.in-Some.ensures.value
+
+-- EACH CALL GOES TO WHAT IS LOWER
+
+pub value_of-value_of-requires : goal.value_of-value_of-requires
+value_of-value_of-requires t c =
+    let n = c.in-Paren in
+    let a = lower c.args.value.now (Expr-F.«Expr::Paren» n.«open» n.inner n.close) (AnExpr n.inner ∷ []) (ap out-Expr n.is ∙ outs-Paren n.«open» n.inner n.close) refl in
+    let b = ap (λ (x : Expr). height (AnExpr x)) c.get.ensures in
+    (omega (arith, a, b), tt)
+
+pub value_of-value_up_to-requires : goal.value_of-value_up_to-requires
+value_of-value_up_to-requires t c =
+    let n = c.in-Chain in
+    let a = lower c.args.value.now (Expr-F.Chain n.head n.tails) (AnExpr n.head ∷ tails_behind n.head [] n.tails []) (ap out-Expr n.is ∙ outs-Chain n.head n.tails) refl in
+    let b = ap (λ (x : Expr). height (AnExpr x)) c.get-in-Chain.ensures in
+    (omega (arith, a, b), tt)
+
+pub value_of-operands_value-requires : goal.value_of-operands_value-requires
+value_of-operands_value-requires t c =
+    let n = c.in-Binary in
+    let a = lower c.args.value.now (Expr-F.Binary n.level n.first n.rest) (AnExpr n.first ∷ operand_nodes n.rest) (ap out-Expr n.is ∙ outs-Binary n.level n.first n.rest) (ap (λ ns. AnExpr n.first ∷ ns) (operands_are (is_binary n.level) n.rest)) in
+    let b : highest (AnExpr c.get-in-Binary.result.now ∷ operand_nodes c.as_slice-in-Binary.result.now) ≡ highest (AnExpr n.first ∷ operand_nodes n.rest)
+    = (λ i. highest (AnExpr (c.get-in-Binary.ensures i) ∷ operand_nodes (c.as_slice-in-Binary.ensures i))) in
+    (omega (arith, a, b), tt)
+
+pub value_of-assigned_value-requires : goal.value_of-assigned_value-requires
+value_of-assigned_value-requires t c =
+    let n = c.in-Assign in
+    let a = lower c.args.value.now (Expr-F.Assign n.target n.op n.from) (APattern n.target ∷ AnExpr n.from ∷ []) (ap out-Expr n.is ∙ outs-Assign n.target n.op n.from) refl in
+    let b = ap (λ (x : Expr). height (AnExpr x)) c.get-in-Assign.ensures in
+    (omega (arith, a, b), tt)
+
+pub value_of-last_value-requires : goal.value_of-last_value-requires
+value_of-last_value-requires t c =
+    let n = c.in-Comma in
+    let a = lower c.args.value.now (Expr-F.Comma n.first n.rest) (AnExpr n.first ∷ operand_nodes n.rest) (ap out-Expr n.is ∙ outs-Comma n.first n.rest) (ap (λ ns. AnExpr n.first ∷ ns) (operands_are (is kind.Comma) n.rest)) in
+    let b : highest (AnExpr c.get-in-Comma.result.now ∷ operand_nodes c.as_slice-in-Comma.result.now) ≡ highest (AnExpr n.first ∷ operand_nodes n.rest)
+    = (λ i. highest (AnExpr (c.get-in-Comma.ensures i) ∷ operand_nodes (c.as_slice-in-Comma.ensures i))) in
+    (omega (arith, a, b), tt)
