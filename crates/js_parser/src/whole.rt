@@ -11,7 +11,7 @@ use crate::fault::{Construct, ParseFault};
 use crate::knot::stmts;
 use crate::tall::Tall;
 use jam_base::Steps;
-use js_tokens::{Goal, Lexer, Raw, TokenFault, TokenReader};
+use js_tokens::{Goal, Lexer, TokenFault, TokenReader};
 use js_tree::Tree;
 use std::alloc::Global;
 use std::sync::ledger::Ledger;
@@ -82,25 +82,25 @@ fn construct_in(text: &str) -> Option<Construct>
     ensures { IfSome result (Begins text.now) }
 {
     match Lexer::new(text).peek(Goal::Operator) {
-        Ok(next) => construct_of(next),
+        Ok(next) => construct_named(next.text, next.start),
         Err(_) => None,
     }
 }
 
-// The construct whose word the token is, if it stands at the front of its text.
-fn construct_of(next: Raw<'_>) -> Option<Construct>
-    ensures { IfSome result (λ what. (next.start ≡ 0) × (next.text.now ≡ word_of what)) }
+// The construct whose word the text is, at the front of all text alone.
+fn construct_named(word: &str, start: u32) -> Option<Construct>
+    ensures { IfSome result (λ what. (start ≡ 0) × (word.now ≡ word_of what)) }
 {
-    if next.start != 0 {
+    if start != 0 {
         return None;
     }
-    if next.text == "eval" {
+    if word == "eval" {
         Some(Construct::Eval)
-    } else if next.text == "with" {
+    } else if word == "with" {
         Some(Construct::With)
-    } else if next.text == "import" {
+    } else if word == "import" {
         Some(Construct::Import)
-    } else if next.text == "export" {
+    } else if word == "export" {
         Some(Construct::Export)
     } else {
         None
