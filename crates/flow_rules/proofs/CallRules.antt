@@ -1,5 +1,5 @@
 -- What the vertices of a call's flows name is there.
-use Rattle.std.proofs.Common.{◌≡◌, ℕ, suc, ◌+◌, ◌-◌, ◌<◌, ◌≤◌, Bool, true, false, List, [], ◌∷◌, ◌++◌, length, refl, sym, subst, Option, Some, None, is_some, if◌then◌else◌, codes, arith}
+use Rattle.std.proofs.Common.{◌≡◌, ℕ, suc, ◌+◌, ◌-◌, ◌≤◌, Bool, true, false, List, [], ◌∷◌, ◌++◌, refl, sym, subst, Option, Some, None, is_some, if◌then◌else◌, codes, arith}
 use Rattle.std.specs.Prelude.{Contains}
 use Rattle.std.specs.List.{AllByRecursion, flat_map}
 use Rattle.std.specs.Str.{bytes_eq}
@@ -12,8 +12,8 @@ use Rattle.flow_rules.specs.declared.arguments.Argument.{Argument}
 use Rattle.flow_rules.specs.declared.arguments.Argument.TheVariants as argument
 use Rattle.flow_rules.specs.declared.module.Flow.{Flow}
 use Rattle.flow_rules.specs.declared.vertex.Vertex.{Vertex}
-use Rattle.flow_rules.specs.declared.vertex.Vertex.TheVariants.{Prop, Elem, Global, Exports, Param, Rest, Ret, Lit, Callee, Arg, More, Recv, Res, Req, Var, Exp}
-use Rattle.flow_rules.specs.Calls.{any_put_flows, argument_flows, behind_receiver, bound_flows, flow, handed_over, member_flows, more_flows, passed_flows, plain, put_flows, puts_in, receiver_flows, reflected_flows, taken_flows}
+use Rattle.flow_rules.specs.declared.vertex.Vertex.TheVariants.{Elem, Callee, Arg, More, Recv, Res, Exp}
+use Rattle.flow_rules.specs.Calls.{any_put_flows, argument_flows, behind_receiver, bound_flows, flow, handed_over, member_flows, more_flows, passed_flows, plain, puts_in, receiver_flows, reflected_flows, taken_flows}
 use Rattle.flow_rules.specs.Requires.{call_requires}
 use Rattle.flow_rules.specs.Constraints.{ModuleConstraints}
 use Rattle.flow_rules.specs.Rules.{HasFunction, HasRequire, HasSite, IsFlow, IsNamed, IsSite}

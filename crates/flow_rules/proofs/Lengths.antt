@@ -1,11 +1,10 @@
 -- A text has few sites, requires, notes, numbered expressions and flows.
-use Rattle.std.proofs.Common.{◌≡◌, ℕ, ◌+◌, ◌*◌, ◌<◌, ◌≤◌, ◌==◌, Bool, true, false, List, [], ◌∷◌, ◌++◌, map, length, length-append, refl, ap, arith, Option, Some, None, if◌then◌else◌, codes}
+use Rattle.std.proofs.Common.{ℕ, ◌+◌, ◌*◌, ◌<◌, ◌≤◌, ◌==◌, Bool, true, false, List, [], ◌∷◌, ◌++◌, map, length, length-append, arith, Option, Some, None, if◌then◌else◌, codes}
 use Rattle.std.specs.List.{flat_map, sum_by}
 use Rattle.std.specs.Str.{bytes_eq}
 use Rattle.std.proofs.lemmas.List.{length-map}
 use Rattle.std.proofs.lemmas.List.Sums.{sum_by-cons}
 use Rattle.js_tree.specs.declared.lists.Arm.{Arm}
-use Rattle.js_tree.specs.declared.lists.Element.{Element}
 use Rattle.js_tree.specs.declared.lists.Further.{Further}
 use Rattle.js_tree.specs.declared.lists.Init.{Init}
 use Rattle.js_tree.specs.declared.lists.Listed.{Listed}
@@ -14,8 +13,8 @@ use Rattle.js_tree.specs.declared.lists.Tail.TheVariants as tail
 use Rattle.js_tree.specs.declared.token.Token.{Token}
 use Rattle.js_tree.specs.declared.token_kind.TokenKind.{TokenKind}
 use Rattle.js_tree.specs.declared.tree.Expr.{Expr, out-Expr}
-use Rattle.js_tree.specs.declared.tree.Expr.TheOpen.{Expr-F, Function-F, Pattern-F, Stmt-F}
-use Rattle.js_tree.specs.declared.tree.Function.{Function, out-Function}
+use Rattle.js_tree.specs.declared.tree.Expr.TheOpen.{Expr-F, Pattern-F, Stmt-F}
+use Rattle.js_tree.specs.declared.tree.Function.{out-Function}
 use Rattle.js_tree.specs.declared.tree.Pattern.{Pattern, out-Pattern}
 use Rattle.js_tree.specs.declared.tree.Slot.{Slot, out-Slot}
 use Rattle.js_tree.specs.declared.tree.Stmt.{out-Stmt}
@@ -34,7 +33,7 @@ use Rattle.js_tree.proofs.EachNode.{paid}
 use Rattle.js_scopes.specs.declared.binding.Binding.{Binding}
 use Rattle.js_scopes.specs.declared.binding.Binding.TheVariants as binding
 use Rattle.js_scopes.specs.declared.site.SiteInfo.{SiteInfo}
-use Rattle.js_scopes.specs.Brackets.{elements, listed, placed}
+use Rattle.js_scopes.specs.Brackets.{elements, placed}
 use Rattle.js_scopes.specs.Calls.{Known, call_sites, first_string, holder_in, is_reflected, is_require, is_require_alone, is_required, last_member, made_with, own_sites, passed_on, sites_in, sites_of_expr}
 use Rattle.js_scopes.specs.Functions.{is_assignment, name_in, params_in, start_of}
 use Rattle.js_scopes.specs.Scopes.{known_of, site_order, sites_of}
@@ -48,8 +47,8 @@ use Rattle.flow_rules.specs.declared.module.Flow.{Flow}
 use Rattle.flow_rules.specs.declared.vertex.Vertex.{Vertex}
 use Rattle.flow_rules.specs.declared.vertex.Vertex.TheVariants as vertex
 use Rattle.flow_rules.specs.Arguments.{arguments_in, arguments_meant, arguments_of_expr, arguments_of_name, arguments_of_pattern, own_arguments}
-use Rattle.flow_rules.specs.Calls.{any_put_flows, argument_flows, argument_of, behind_receiver, bound_flows, call_flows, callee_flows, ends_in_member, flow, handed_over, handing_flows, made_flows, member_flows, more_flows, passed_flows, plain, puts_in, receiver_flows, reflected_flows, tagged_with, taken_flows, unrequired_flows}
-use Rattle.flow_rules.specs.Flows.{assigned_flows, choice_flows, expr_flows, facts_of, flows_in, flows_of, function_flows, given_flows, into, joined_flow, name_flows, named_flows, note_order, notes_of, operands_flows, own_flows, param_flows, params_flows, pattern_flows, require_order, requires_of, rest_flows, returned_flows, stmt_flows}
+use Rattle.flow_rules.specs.Calls.{any_put_flows, argument_flows, argument_of, behind_receiver, bound_flows, call_flows, callee_flows, ends_in_member, flow, handed_over, handing_flows, member_flows, more_flows, passed_flows, plain, puts_in, receiver_flows, reflected_flows, tagged_with, taken_flows}
+use Rattle.flow_rules.specs.Flows.{choice_flows, expr_flows, facts_of, flows_in, flows_of, given_flows, into, joined_flow, name_flows, named_flows, note_order, notes_of, operands_flows, own_flows, param_flows, params_flows, pattern_flows, require_order, requires_of, returned_flows, stmt_flows}
 use Rattle.flow_rules.specs.Numbered.{numbered_call, numbered_calls, numbered_in_expr, numbered_of, own_numbered}
 use Rattle.flow_rules.specs.Requires.{call_notes, call_requires, expr_notes, name_notes, notes_in, own_notes, own_requires, pattern_notes, requires_in, standing_in, used_notes, written_notes}
 use Rattle.flow_rules.specs.Values.{Facts, OR, choice_mark, is_numbered, joined_vertex, object_value, operator_mark, place, takes_out, token_vertex, value, value_up_to}

@@ -1,5 +1,5 @@
 -- What each node of a tree has that spells a text: its functions, sites and requires are among those of the tree, and its tokens of the text.
-use Rattle.std.proofs.Common.{◌≡◌, ℕ, suc, ◌+◌, ◌<◌, ◌≤◌, ◌==◌, List, [], ◌∷◌, refl, sym, ap, ◌∙◌, subst, Option, Some, None, arith}
+use Rattle.std.proofs.Common.{◌≡◌, ℕ, suc, ◌+◌, ◌<◌, ◌≤◌, ◌==◌, List, [], ◌∷◌, refl, sym, ap, ◌∙◌, subst, Option, None, arith}
 use Rattle.std.specs.Prelude.{Contains, slice_index_or}
 use Rattle.std.specs.List.{AllByRecursion, count_by}
 use Rattle.std.specs.Cmp.{IsTotalOrder, on_total, nat_cmp_total}
@@ -66,10 +66,11 @@ module _ (tree : Tree) where
       let member = All-from_recursion (Contains inner) ordered (all_ascending function_order function_total (Contains inner) inner (each_itself inner)) in
       let back : Contains inner t.0 = subst (Contains inner) t.1.2 (member t.1.0 t.0 t.1.1) in
       let same : f ≡ t.0 = one_of (starts_at f.start) inner f t.0 (one_function h f.start) m back (nat_same f.start f.start refl) (nat_same t.0.start f.start t.2) in
-      let at = at_count ordered t.0 t.1 (sorted_ascending function_order function_total inner) in
-      (below_at f m,
-      λ d. subst (λ n. i < (slice_index_or (functions_of tree) n d).params) (ap (function_number (numbering_of tree)) t.2)
-      (subst (λ (g : FunctionInfo). i < g.params) (same ∙ sym (behind_first _ ordered _ d ∙ at d)) lt))
+      let at = at_count ordered t.0 t.1 (sorted_ascending function_order function_total inner) in (
+        below_at f m,
+        λ d. subst (λ n. i < (slice_index_or (functions_of tree) n d).params) (ap (function_number (numbering_of tree)) t.2)
+            (subst (λ (g : FunctionInfo). i < g.params) (same ∙ sym (behind_first _ ordered _ d ∙ at d)) lt),
+      )
 
   -- NODES
 

@@ -1,5 +1,5 @@
 -- What there is one of at most, and the numbers of functions.
-use Rattle.std.proofs.Common.{◌≡◌, ℕ, zero, suc, ◌+◌, ◌<◌, ◌≤◌, inl, inr, Bool, true, false, nat_eq, nat_lt, ◌==◌, ◌&&◌, List, [], ◌∷◌, length, refl, sym, ap, ◌∙◌, subst, Option, Some, None, is_some, if◌then◌else◌, arith}
+use Rattle.std.proofs.Common.{◌≡◌, ℕ, zero, suc, ◌+◌, ◌<◌, ◌≤◌, inl, inr, Bool, true, false, nat_eq, nat_lt, ◌==◌, ◌&&◌, List, [], ◌∷◌, length, refl, sym, ap, ◌∙◌, subst, Option, Some, None, if◌then◌else◌, arith}
 use Rattle.std.specs.Prelude.{Contains, slice_index_or}
 use Rattle.std.specs.List.Sorted.{IsStrictlySortedBy}
 use Rattle.std.specs.Ordering.{nat_cmp}
@@ -11,10 +11,8 @@ use Rattle.std.proofs.lemmas.Cmp.{ranked}
 use Rattle.std.proofs.lemmas.List.Elements.{All-contains_itself, recursion_from_All}
 use Rattle.std.proofs.lemmas.List.Sums.{count_by-le-length}
 use Rattle.js_tree.specs.declared.token.Token.{Token}
-use Rattle.js_tree.specs.declared.lists.Bracket.{Bracket}
-use Rattle.js_tree.specs.declared.lists.Tail.{Tail}
 use Rattle.js_tree.specs.declared.lists.Tail.TheVariants as tail
-use Rattle.js_tree.specs.declared.tree.Expr.{Expr, out-Expr}
+use Rattle.js_tree.specs.declared.tree.Expr.{out-Expr}
 use Rattle.js_tree.specs.declared.tree.Expr.TheOpen.{Expr-F, Function-F}
 use Rattle.js_tree.specs.declared.tree.Function.{out-Function}
 use Rattle.js_tree.specs.Folds.{ExprLayer, FunctionLayer}
@@ -28,7 +26,7 @@ use Rattle.js_tree.proofs.TokenLemmas.{tokens_are}
 use Rattle.js_scopes.specs.declared.function.FunctionInfo.{FunctionInfo}
 use Rattle.js_scopes.specs.declared.site.SiteInfo.{SiteInfo}
 use Rattle.js_scopes.specs.Brackets.{elements, placed}
-use Rattle.js_scopes.specs.Calls.{Known, call_sites, is_reflected, is_required, last_member, made_with, own_sites, passed_on, site_at, sites_of_expr, unrequired_sites}
+use Rattle.js_scopes.specs.Calls.{Known, call_sites, is_reflected, is_required, last_member, made_with, own_sites, passed_on, sites_of_expr, unrequired_sites}
 use Rattle.js_scopes.specs.Functions.{info_in, own_functions}
 use Rattle.js_scopes.proofs.Counts.{count_cons, one_if}
 use Rattle.flow_rules.specs.Rules.{IsShort}

@@ -16,11 +16,11 @@ use Rattle.js_tree.specs.declared.tree.Slot.{out-Slot}
 use Rattle.js_tree.specs.Folds.{ExprLayer, FunctionLayer, PatternLayer}
 use Rattle.js_tree.specs.Lexical.Value.{value_of}
 use Rattle.js_tree.specs.Line.{items}
-use Rattle.js_tree.specs.Parts.{Node, AnExpr, AFunction, APattern, ASlot, ATail, nodes, parts, tails_behind}
+use Rattle.js_tree.specs.Parts.{Node, AnExpr, AFunction, APattern, ASlot, ATail, nodes, tails_behind}
 use Rattle.js_tree.specs.Spelling.Expressions.{expr_row}
 use Rattle.js_tree.specs.Spelling.Functions.{function_row}
 use Rattle.js_tree.specs.Spelling.Patterns.{pattern_row}
-use Rattle.js_tree.specs.Tokens.{IsInText, IsOfText, own_tokens, tokens_among}
+use Rattle.js_tree.specs.Tokens.{IsInText, IsOfText, tokens_among}
 use Rattle.js_tree.proofs.EachNode.{everywhere_below, gathered_keeps}
 use Rattle.js_tree.proofs.TextLemmas.{parts_in_text}
 use Rattle.js_scopes.specs.Calls.{first_string, member_in, string_in}

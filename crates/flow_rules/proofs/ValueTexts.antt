@@ -1,5 +1,5 @@
 -- The value of a string isn't much longer than the string.
-use Rattle.std.proofs.Common.{◌≡◌, ℕ, zero, suc, ◌+◌, ◌*◌, ◌/◌, ◌%◌, ◌<◌, ◌≤◌, Bool, true, false, ◌&&◌, nat_lt, cond, List, [], ◌∷◌, ◌++◌, ◌-◌, map, take, drop, length, length-append, subst, sym, ap, arith, Option, Some, None, option_and_then, if◌then◌else◌}
+use Rattle.std.proofs.Common.{◌≡◌, ℕ, zero, suc, ◌+◌, ◌*◌, ◌/◌, ◌%◌, ◌≤◌, Bool, true, false, ◌&&◌, nat_lt, cond, List, [], ◌∷◌, ◌-◌, take, drop, length, length-append, arith, Option, Some, None, option_and_then, if◌then◌else◌}
 use Rattle.std.specs.Char.Escape.{encode_utf16}
 use Rattle.std.specs.Char.Utf16.{has_unpaired_surrogate, is_high_surrogate, is_low_surrogate, lone_unit_char, surrogate_pair_char, utf16_chars, utf16_lossy_chars}
 use Rattle.std.specs.List.{fold}
@@ -10,7 +10,7 @@ use Rattle.std.proofs.lemmas.List.{length-drop, length-map}
 use Rattle.std.proofs.lemmas.Str.{length-encode}
 use Rattle.js_tree.specs.declared.escape.ValuePart.{ValuePart}
 use Rattle.js_tree.specs.declared.escape.ValuePart.TheVariants as part
-use Rattle.js_tree.specs.Lexical.Value.{between, may_end, next, step, text_of, units_from, units_in, units_of, value_in, value_of}
+use Rattle.js_tree.specs.Lexical.Value.{between, may_end, next, step, text_of, units_from, units_of, value_in, value_of}
 use Rattle.js_tree.specs.Spells.{limit}
 use Rattle.flow_rules.specs.Rules.{IsShort}
 

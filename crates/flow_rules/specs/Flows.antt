@@ -1,5 +1,5 @@
 -- What a tree says of its values: what each kind of node gives by itself.
-use Rattle.std.specs.Prelude.{ℕ, ◌+◌, ◌==◌, Bool, List, [], ◌∷◌, ◌++◌, map, Option, Some, None, if◌then◌else◌}
+use Rattle.std.specs.Prelude.{ℕ, ◌+◌, ◌==◌, List, [], ◌∷◌, ◌++◌, Option, Some, None, if◌then◌else◌}
 use Rattle.std.specs.List.{flat_map, list_any}
 use Rattle.std.specs.Ordering.{nat_cmp, on}
 use Rattle.std.specs.declared.cmp.Ordering.{Ordering}
@@ -16,8 +16,6 @@ use Rattle.js_tree.specs.declared.tree.Stmt.{out-Stmt}
 use Rattle.js_tree.specs.declared.tree.Tree.{Tree}
 use Rattle.js_tree.specs.Folds.{ExprLayer, PatternLayer, SlotLayer, StmtLayer}
 use Rattle.js_tree.specs.Parts.{Node, AnExpr, AFunction, APattern, AStmt, ASlot, ATail, ABody, gathered}
-use Rattle.js_scopes.specs.declared.binding.Binding.{Binding}
-use Rattle.js_scopes.specs.declared.binding.Binding.TheVariants as binding
 use Rattle.jam_base.specs.Ascending.{ascending}
 use Rattle.js_scopes.specs.Calls.{Known, holder_in, made_with}
 use Rattle.js_scopes.specs.Functions.{is_assignment, name_in, params_in, start_of}

@@ -95,15 +95,7 @@ fn push_expr_flows(
             head,
             tails,
             args,
-        } => push_made(
-            alloc,
-            facts,
-            word,
-            head.get(),
-            tails.as_slice(),
-            args,
-            out,
-        ),
+        } => push_made(alloc, facts, word, head.get(), tails.as_slice(), args, out),
         Expr::Binary { level, first, rest } => {
             push_operands(alloc, facts, *level, first.get(), rest.as_slice(), out)
         }

@@ -182,11 +182,7 @@ fn puts_in(name: &str) -> bool
 }
 
 // Each plain argument is an element.
-fn push_elements(
-    alloc: Global,
-    args: &[Argument],
-    out: &mut Vec<Flow>,
-) -> Result<(), OutOfMemory>
+fn push_elements(alloc: Global, args: &[Argument], out: &mut Vec<Flow>) -> Result<(), OutOfMemory>
     ensures { OnOk result (out.new.items ≡ out.old.items ++ flat_map (λ a. flows.flow (flows.plain a) (Some vertex.Elem)) args.now) }
 {
     for argument in args {

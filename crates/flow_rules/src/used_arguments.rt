@@ -56,11 +56,7 @@ impl<'t, 'm> Gather<'t> for UsedArguments<'m> {
     }
 }
 
-fn push_used_by_expr(
-    known: &Known<'_>,
-    value: &Expr,
-    out: &mut Vec<u32>,
-) -> Result<(), OutOfMemory>
+fn push_used_by_expr(known: &Known<'_>, value: &Expr, out: &mut Vec<u32>) -> Result<(), OutOfMemory>
     ensures { OnOk result (out.new.items ≡ out.old.items ++ seen.arguments_of_expr (known_in known.now) (out-Expr value.now)) }
 {
     match value {

@@ -1,6 +1,4 @@
-use Rattle.std.proofs.Common.{◌+◌, ◌*◌, ◌∷◌, map}
-use Rattle.js_tree.specs.declared.lists.Further.{Further}
-use Rattle.js_tree.specs.declared.tree.Expr.{Expr}
+use Rattle.std.proofs.Common.{◌+◌, ◌*◌, ◌∷◌}
 use Rattle.js_tree.specs.Parts.{AnExpr, height}
 use Rattle.js_tree.proofs.PartLemmas.{highest}
 use Rattle.flow_rules.proofs.ValueLemmas.{operand_nodes}
