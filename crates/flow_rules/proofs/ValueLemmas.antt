@@ -1,8 +1,8 @@
 -- Where the values of each kind of expression stand.
-use Rattle.std.proofs.Common.{◌≡◌, ℕ, zero, suc, ◌-◌, ◌<◌, ◌≤◌, Bool, List, [], ◌∷◌, ◌++◌, map, length, length-append, slice_get, get_or, take, refl, sym, ap, ◌∙◌, arith, Option, Some, None}
+use Rattle.std.proofs.Common.{◌≡◌, ℕ, suc, ◌-◌, ◌<◌, Bool, List, [], ◌∷◌, ◌++◌, map, length, length-append, slice_get, get_or, take, refl, sym, ap, ◌∙◌, arith, Option, Some, None}
 use Rattle.std.specs.Option.{option_map, unwrap_or}
 use Rattle.std.proofs.lemmas.List.{length-map}
-use Rattle.std.proofs.lemmas.Option.{none-some, same_Some, slice_get-get_or, slice_get-map}
+use Rattle.std.proofs.lemmas.Option.{slice_get-get_or, slice_get-map}
 use Rattle.js_tree.specs.declared.lists.Arm.{Arm}
 use Rattle.js_tree.specs.declared.lists.Bracket.{Bracket}
 use Rattle.js_tree.specs.declared.lists.Further.{Further}
@@ -78,12 +78,6 @@ operands_are test (x ∷ xs) = ap (λ ns. AnExpr x.item ∷ ns) (operands_are te
 -- parts of an expression that are these are lower than it
 pub lower : (x : Expr) (l : ExprLayer) (ns : List Node) → out-Expr x ≡ l → expr_row nodes l [] ≡ ns → highest ns < height (AnExpr x)
 lower x l ns e same = let a = parts_below (AnExpr x) in let b = ap highest (ap (λ (y : ExprLayer). expr_row nodes y []) e ∙ same) in omega (arith, a, b)
-
--- none of them is higher than the highest
-pub none_higher : (xs : List (Further Expr)) (x : Further Expr) (k : ℕ) → slice_get xs k ≡ Some x → height (AnExpr x.item) ≤ highest (operand_nodes xs)
-none_higher [] x k e = absurd (none-some x e)
-none_higher (y ∷ ys) x zero e = let a = ap (λ (z : Further Expr). height (AnExpr z.item)) (same_Some y x e) in omega (arith, a)
-none_higher (y ∷ ys) x (suc k) e = let a = none_higher ys x k e in omega (arith, a)
 
 module _ (facts : Facts) where
   abbrev made : ExprLayer → List (Option Vertex)
