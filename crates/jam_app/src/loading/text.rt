@@ -63,8 +63,8 @@ fn spelled<L: Ledger>(alloc: Global, text: &str, steps: &mut Steps<L>) -> Result
     match parse(alloc, text, steps) {
         Ok(tree) => Ok(tree),
         Err(ParseFault::TooLarge { length }) => Err(Bad::TooLarge(length)),
-        Err(ParseFault::Construct { at, .. }) => Err(Bad::At(place_of(text, at))),
         Err(ParseFault::NotInProfile { at }) => Err(Bad::At(place_of(text, at))),
+        Err(ParseFault::Construct { at, .. }) => Err(Bad::At(place_of(text, at))),
         Err(ParseFault::OutOfMemory) => Err(Bad::OutOfMemory),
     }
 }

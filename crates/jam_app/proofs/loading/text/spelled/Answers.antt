@@ -1,6 +1,6 @@
 use Rattle.std.proofs.Common.{Err, ap, ◌∙◌}
 use Rattle.jam_base.specs.declared.place.Place.{Place}
-use Rattle.jam_app.proofs.Refusing.{bad_text, one_tree, small_stop}
+use Rattle.jam_app.proofs.Refusing.{bad_text, construct, elsewhere, one_tree, small_stop}
 use Rattle.jam_app.proofs.loading.text.spelled.Goals as goal
 
 pub returns-in-Ok : goal.returns-in-Ok
@@ -12,12 +12,27 @@ returns-in-Err-TooLarge g c = c.parse.ensures.too_large.only _ (c.in-Err-TooLarg
 pub returns-in-Err-NotInProfile : goal.returns-in-Err-NotInProfile
 returns-in-Err-NotInProfile g c =
     let is = c.in-Err-NotInProfile.is ∙ ap Err c.in-Err-NotInProfile.field-0-is in
-    bad_text c.args.text.now c.in-Err-NotInProfile.at _ c.parse.result c.requires.ascii c.parse.ensures.too_large is
+    bad_text c.args.text.now c.in-Err-NotInProfile.at _ _ c.parse.result elsewhere c.requires.ascii c.parse.ensures.too_large is
     (c.parse.ensures.placed _ is) (c.parse.ensures.unspelled _ is) (ap (λ (p : Place). p.offset) c.place_of.ensures)
 
 pub place_of-requires-clause-below : goal.place_of-requires-clause-below
 place_of-requires-clause-below g c =
-    small_stop c.args.text.now c.in-Err-NotInProfile.at c.parse.result c.parse.ensures.too_large c.parse.ensures.placed (c.in-Err-NotInProfile.is ∙ ap Err c.in-Err-NotInProfile.field-0-is)
+    let is = c.in-Err-NotInProfile.is ∙ ap Err c.in-Err-NotInProfile.field-0-is in
+    small_stop c.args.text.now c.in-Err-NotInProfile.at _ c.parse.result elsewhere c.parse.ensures.too_large (c.parse.ensures.placed _ is) is
 
 pub place_of-requires-clause-boundary : goal.place_of-requires-clause-boundary
 place_of-requires-clause-boundary g c = c.parse.ensures.at_character _ (c.in-Err-NotInProfile.is ∙ ap Err c.in-Err-NotInProfile.field-0-is)
+
+pub returns-in-Err-Construct : goal.returns-in-Err-Construct
+returns-in-Err-Construct g c =
+    let is = c.in-Err-Construct.is ∙ ap Err c.in-Err-Construct.field-0-is in
+    bad_text c.args.text.now c.in-Err-Construct.at _ _ c.parse.result (construct _) c.requires.ascii c.parse.ensures.too_large is
+    (c.parse.ensures.placed _ is) (c.parse.ensures.unspelled _ is) (ap (λ (p : Place). p.offset) c.place_of-in-Err-Construct.ensures)
+
+pub place_of-in-Err-Construct-requires-clause-below : goal.place_of-in-Err-Construct-requires-clause-below
+place_of-in-Err-Construct-requires-clause-below g c =
+    let is = c.in-Err-Construct.is ∙ ap Err c.in-Err-Construct.field-0-is in
+    small_stop c.args.text.now c.in-Err-Construct.at _ c.parse.result (construct _) c.parse.ensures.too_large (c.parse.ensures.placed _ is) is
+
+pub place_of-in-Err-Construct-requires-clause-boundary : goal.place_of-in-Err-Construct-requires-clause-boundary
+place_of-in-Err-Construct-requires-clause-boundary g c = c.parse.ensures.at_character _ (c.in-Err-Construct.is ∙ ap Err c.in-Err-Construct.field-0-is)
