@@ -163,18 +163,18 @@ fn arguments(alloc: Global, start: u32) -> Result<Bracket<Boxed<Expr>>, OutOfMem
     front.push(Listed {
         item: Element {
             dots: None,
-            value: named(alloc, "s", start + 1)?,
+            value: named(alloc, "s", start.wrapping_add(1))?,
         },
-        mark: mark(alloc, ",", start + 2)?,
+        mark: mark(alloc, ",", start.wrapping_add(2))?,
     })?;
     Ok(Bracket {
         open: mark(alloc, "(", start)?,
         front: Items::from_vec(front),
         last: Some(Element {
-            dots: Some(mark(alloc, "...", start + 3)?),
-            value: named(alloc, "t", start + 4)?,
+            dots: Some(mark(alloc, "...", start.wrapping_add(3))?),
+            value: named(alloc, "t", start.wrapping_add(4))?,
         }),
-        close: mark(alloc, ")", start + 5)?,
+        close: mark(alloc, ")", start.wrapping_add(5))?,
     })
 }
 
@@ -182,8 +182,13 @@ fn arguments(alloc: Global, start: u32) -> Result<Bracket<Boxed<Expr>>, OutOfMem
 fn template(alloc: Global, start: u32) -> Result<Template<Boxed<Expr>>, OutOfMemory> {
     let mut parts = Vec::new(alloc);
     parts.push(Listed {
-        item: named(alloc, "b", start + 1)?,
-        mark: token(alloc, "}c`", TokenClass::TemplateTail, start + 2)?,
+        item: named(alloc, "b", start.wrapping_add(1))?,
+        mark: token(
+            alloc,
+            "}c`",
+            TokenClass::TemplateTail,
+            start.wrapping_add(2),
+        )?,
     })?;
     Ok(Template {
         head: token(alloc, "`a${", TokenClass::TemplateHead, start)?,
