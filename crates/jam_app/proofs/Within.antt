@@ -9,7 +9,7 @@ use Rattle.std.proofs.lemmas.List.{drop_all, take_all, get_or-drop, length-drop,
 use Rattle.std.proofs.lemmas.Str.{chars-append, chars-nil, length-encode, len_utf8_bounds, IsUtf8-drop, IsUtf8-take, IsCharBoundary-after_ascii, IsCharBoundary-before_ascii, IsCharBoundary-past_char}
 use Rattle.std.proofs.Math.Seq.{take-add}
 use lib.Utf8.{scalar_cases}
-use Rattle.core.proofs.str.Laws as laws
+use Rattle.std.proofs.str.Laws as laws
 use Rattle.jam_base.specs.Place.{begins_with_line_feed, is_line_end, line_ends, last_line}
 use Rattle.jam_app.specs.Printing.{spot_at}
 use Rattle.jam_app.proofs.PrintLemmas.{more_mapped}
