@@ -116,15 +116,52 @@ fn a_text_is_taken_or_refused_at_its_place(rt: HostRuntime) -> Result<(), Fail> 
             2,
             "jam: index.js:3:4: not in the profile\n",
         ),
+        // U+00E9 is a name, and U+20AC begins no token.
         (
             b"f(); \xc3\xa9".as_slice(),
             2,
-            "jam: index.js:1:1: not in the profile\n",
+            "jam: index.js:1:7: not in the profile\n",
+        ),
+        (
+            b"f(); \xe2\x82\xac".as_slice(),
+            2,
+            "jam: index.js:1:6: not in the profile\n",
         ),
         (
             b"\xff".as_slice(),
             2,
             "jam: index.js:1:1: not in the profile\n",
+        ),
+        // The front U+FEFF goes, and only that one: the next one is white space.
+        (b"\xef\xbb\xbff();".as_slice(), 0, ""),
+        (
+            b"\xef\xbb\xbff(".as_slice(),
+            2,
+            "jam: index.js:1:3: not in the profile\n",
+        ),
+        (b"\xef\xbb\xbf\xef\xbb\xbf".as_slice(), 0, ""),
+        (
+            b"\xef\xbb\xbf\xef\xbb\xbf?".as_slice(),
+            2,
+            "jam: index.js:1:2: not in the profile\n",
+        ),
+        // Each byte that begins nothing is a character, and so is the front of one that breaks off.
+        (b"require(\"./\xff\xff\");".as_slice(), 0, ""),
+        (
+            b"require(\"./\xff\xff\"); ?".as_slice(),
+            2,
+            "jam: index.js:1:18: not in the profile\n",
+        ),
+        (
+            b"require(\"./\xe2\x82\"); ?".as_slice(),
+            2,
+            "jam: index.js:1:17: not in the profile\n",
+        ),
+        // Greek letters in a string.
+        (
+            b"require(\"./\xce\xbb\xcf\x8c\xce\xb3\xce\xbf\xcf\x82\"); ?".as_slice(),
+            2,
+            "jam: index.js:1:21: not in the profile\n",
         ),
     ] {
         let mut bench = set_up(alloc, "index.js", text, 0, 99)?;
@@ -229,6 +266,10 @@ fn calls_have_edges_to_what_their_names_declare(rt: HostRuntime) -> Result<(), F
         (
             "require();\nfunction require() { }\n",
             "index.js:1:8 -> index.js:2:1 require\n",
+        ),
+        (
+            "require(\"./λ\"); f();\nfunction f() { require(\"./λ\"); f(); }\n",
+            "index.js:1:18 -> index.js:2:1 f\nindex.js:2:33 -> index.js:2:1 f\n",
         ),
         (
             "function f() { f(); }\nfunction g() { h(); }\nfunction h() { g(); }\n",

@@ -54,11 +54,11 @@ pub record IsOwed (operand : List ℕ) (files : Files) (text : List ℕ) : Type 
 abbrev pub StopsWide : ℕ → Stop → Type 0
 StopsWide size stop = (stop ≡ OutOfMemory) ⊎ ((size_limit ≤ size) × Refuses (refusal.TooWide size) stop)
 
--- why a file has no tree: it is too large, none spells its text, which reading left at the offset, or memory ran out
+-- why a text has no tree: it is too large, none spells it, and reading left it at the offset, or memory ran out
 abbrev pub HasBadCause : List ℕ → Bad → Type 0
-HasBadCause bytes (bad.TooLarge n) = (limit < length bytes) × (n ≡ length bytes)
-HasBadCause bytes (bad.At place) = IsBad bytes × (length bytes ≤ limit) × IsRefusedAt bytes place.offset
-HasBadCause bytes bad.OutOfMemory = Unit {0}
+HasBadCause text (bad.TooLarge n) = (limit < length text) × (n ≡ length text)
+HasBadCause text (bad.At place) = IsBad text × (length text ≤ limit) × IsRefusedAt text place.offset
+HasBadCause text bad.OutOfMemory = Unit {0}
 
 -- what a module without a tree means for the run
 abbrev pub StopsFor : List ℕ → Bad → Stop → Type 0

@@ -32,7 +32,7 @@ fn too_many_line(alloc: Global, modules: u32, bytes: u64) -> Result<Text, OutOfM
     Ok(Text::from_string(line))
 }
 
-/// That the file of a module is too large.
+/// That the text of a module is too large.
 pub(crate) fn too_large(alloc: Global, path: ModulePath, length: u64) -> Stop
     ensures { Refuses (Refusal.TooLarge path length) result }
 {
