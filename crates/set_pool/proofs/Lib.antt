@@ -1,0 +1,4 @@
+pub mod Members
+pub mod TableLemmas
+pub mod WalkLemmas
+pub mod WindowLemmas
