@@ -1,4 +1,4 @@
-//! Tests of summaries, call graphs, paths and reports.
+//! Tests of summaries, call graphs, sets, paths and reports.
 #![tactic(auto)]
 
 #[cfg(test)]
@@ -13,3 +13,5 @@ mod reach_path_tests;
 mod report_tests;
 #[cfg(test)]
 mod report_text_tests;
+#[cfg(test)]
+mod set_pool_tests;
