@@ -116,8 +116,14 @@ fn a_text_is_taken_or_refused_at_its_place(rt: HostRuntime) -> Result<(), Fail> 
             2,
             "jam: index.js:3:4: not in the profile\n",
         ),
+        // U+00E9 is a name, and U+20AC begins no token.
         (
             b"f(); \xc3\xa9".as_slice(),
+            2,
+            "jam: index.js:1:7: not in the profile\n",
+        ),
+        (
+            b"f(); \xe2\x82\xac".as_slice(),
             2,
             "jam: index.js:1:6: not in the profile\n",
         ),
@@ -126,17 +132,18 @@ fn a_text_is_taken_or_refused_at_its_place(rt: HostRuntime) -> Result<(), Fail> 
             2,
             "jam: index.js:1:1: not in the profile\n",
         ),
-        // The front U+FEFF goes, and only that one.
+        // The front U+FEFF goes, and only that one: the next one is white space.
         (b"\xef\xbb\xbff();".as_slice(), 0, ""),
         (
             b"\xef\xbb\xbff(".as_slice(),
             2,
             "jam: index.js:1:3: not in the profile\n",
         ),
+        (b"\xef\xbb\xbf\xef\xbb\xbf".as_slice(), 0, ""),
         (
-            b"\xef\xbb\xbf\xef\xbb\xbf".as_slice(),
+            b"\xef\xbb\xbf\xef\xbb\xbf?".as_slice(),
             2,
-            "jam: index.js:1:1: not in the profile\n",
+            "jam: index.js:1:2: not in the profile\n",
         ),
         // Each byte that begins nothing is a character, and so is the front of one that breaks off.
         (b"require(\"./\xff\xff\");".as_slice(), 0, ""),
