@@ -20,13 +20,8 @@ with_selector-more : (done : List Selector) (s : Selector) (r : Option (List Sel
 with_selector-more done s None = refl
 with_selector-more done s (Some more) = ap Some (sym (append_assoc done (s ∷ []) more))
 
--- one more selector read
-pub selectors_of-next : (done : List Selector) (d : Data) (s : Selector) (ds : Items) → selector_of d ≡ Some s
-    → option_map (λ more. done ++ more) (selectors_of (item d ds)) ≡ option_map (λ more. (done ++ s ∷ []) ++ more) (selectors_of ds)
 unfolding selectors_of
 selectors_of-next done d s ds h = rw h (with_selector-more done s (selectors_of ds))
 
--- a value that is no selector
-pub selectors_of-none : (done : List Selector) (d : Data) (ds : Items) → selector_of d ≡ None → option_map (λ more. done ++ more) (selectors_of (item d ds)) ≡ None
 unfolding selectors_of
 selectors_of-none done d ds h = rw h refl

@@ -6,8 +6,6 @@ mod fault;
 mod item;
 mod read;
 mod selectors;
-#[cfg(test)]
-mod tests;
 
 pub use advisory::{Advisory, Selector};
 pub use fault::{AdvisoryFault, Field};

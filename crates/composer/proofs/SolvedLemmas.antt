@@ -233,7 +233,3 @@ enumerated n (y ∷ ys) zero x e =
 enumerated n (y ∷ ys) (suc i) x e =
     let k : n + 1 + i ≡ n + suc i = omega arith in
     there (n, y) (enumerate_from (n + 1) ys) (n + suc i, x) (subst (λ j. Contains (enumerate_from (n + 1) ys) (j, x)) k (enumerated (n + 1) ys i x e))
-
--- what a module has is among what each has
-pub part_of_each : {X : Type 0} (modules : List ModuleConstraints) (f : ℕ → ModuleConstraints → List X) (m : ℕ) (c : ModuleConstraints) (x : X) → slice_get modules m ≡ Some c → Contains (f m c) x → Contains (of_each modules f) x
-part_of_each modules f m c x e h = into_flat_map (λ (i, d). f i d) (enumerate_from 0 modules) (m, c) x (subst (λ j. Contains (enumerate_from 0 modules) (j, c)) (let z : 0 + m ≡ m = omega arith in z) (enumerated 0 modules m c e)) h

@@ -26,6 +26,3 @@ pub use graph::Graph;
 pub use law::{least_solution, one_edge_list};
 pub use size::{SIZE_LIMIT, size_of};
 pub use system::{Arrow, CallSite, Callable, System};
-
-#[cfg(test)]
-mod tests;

@@ -9,6 +9,3 @@ mod summary;
 
 pub use folding::fold;
 pub use summary::Summary;
-
-#[cfg(test)]
-mod tests;

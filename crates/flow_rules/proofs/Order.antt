@@ -170,14 +170,6 @@ both_equal Equal b e = (refl, e)
 both_equal Less b e = absurd (cc)
 both_equal Greater b e = absurd (cc)
 
--- two flows that the order doesn't tell apart are one
-pub one_flow : (f g : Flow) → flow_order f g ≡ Equal → f ≡ g
-one_flow f g e =
-    let b = both_equal (vertex_order f.from g.from) (vertex_order f.to g.to) e in
-    let from = one_vertex f.from g.from (exact_bytes (vertex_key f.from) (vertex_key g.from) b.0) in
-    let to = one_vertex f.to g.to (exact_bytes (vertex_key f.to) (vertex_key g.to) b.1) in
-    λ i. record { from = from i; to = to i }
-
 -- two vertices that the order doesn't tell apart have one key
 pub same_key : (u v : Vertex) → eq_by_cmp vertex_order u v ≡ bytes_eq (vertex_key u) (vertex_key v)
 same_key u v = is_eq-slice_cmp (vertex_key u) (vertex_key v)

@@ -74,12 +74,6 @@ pub record Taken (m : Files) (start size : Size) (sources : List Source) (done :
   pub files : map file_of sources ≡ map (file_at m) done
   pub sizes : (earlier : List (List ℕ)) → start ≡ size_of m earlier → size ≡ size_of m (earlier ++ done)
 
-pub taken_none : (m : Files) (start : Size) (sources : List Source) → sources ≡ [] → Taken m start start sources []
-taken_none m start sources none = record {
-  files = ap (map file_of) none;
-  sizes = λ earlier is. is ∙ ap (size_of m) (sym (append-nil earlier));
-}
-
 pub taken_more : (m : Files) (start size new : Size) (sources all : List Source) (source : Source) (done : List (List ℕ)) (path : List ℕ) → Taken m start size sources done
     → (file_of source ≡ file_at m path) × ((earlier : List (List ℕ)) → size ≡ size_of m earlier → new ≡ size_of m (earlier ++ path ∷ []))
     → all ≡ sources ++ source ∷ [] → Taken m start new all (done ++ path ∷ [])

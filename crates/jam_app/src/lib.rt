@@ -16,16 +16,3 @@ pub use commands::table::Command;
 pub use law::one_refusal;
 pub use loading::size::BYTE_LIMIT;
 pub use top::{ended_without_words, run};
-
-#[cfg(test)]
-mod audit_tests;
-#[cfg(test)]
-mod constraints_lines;
-#[cfg(test)]
-mod constraints_tests;
-#[cfg(test)]
-mod loading_tests;
-#[cfg(test)]
-mod member_tests;
-#[cfg(test)]
-mod tests;

@@ -19,6 +19,3 @@ mod words;
 
 pub use fault::ParseFault;
 pub use whole::parse;
-
-#[cfg(test)]
-mod tests;

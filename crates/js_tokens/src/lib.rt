@@ -19,6 +19,3 @@ pub use fault::{LexFault, TakeFault, TokenFault, Unclosed};
 pub use goal::Goal;
 pub use lexer::{Lexer, Raw};
 pub use reader::TokenReader;
-
-#[cfg(test)]
-mod tests;

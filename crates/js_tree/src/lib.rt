@@ -29,6 +29,3 @@ pub use tree::{
 };
 pub use value::string_value;
 pub use walk::{Gather, walk_tree};
-
-#[cfg(test)]
-mod tests;

@@ -10,9 +10,6 @@ use jam_base::OutOfMemory;
 use serde_json::Value;
 use std::alloc::Global;
 
-#[cfg(test)]
-mod tests;
-
 /// The JSON value that the bytes are (RFC 8259). None where they are none: not UTF-8, no JSON, deeper
 /// than 127 levels, or with a number beyond the floats of 64 bits. Of equal keys the last counts.
 pub fn read_value(alloc: Global, bytes: &[u8]) -> Result<Option<Value>, OutOfMemory>

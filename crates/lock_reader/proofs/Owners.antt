@@ -18,22 +18,6 @@ only e x c = only_at e x c.0 c.1 c.2
 here : (entries : List LockEntry) (e : LockEntry) → Contains (entries ++ e ∷ []) e
 here entries e = Contains-append_right entries (e ∷ []) e (0, omega arith, refl)
 
--- a new entry that doesn't own the path changes nothing
-pub IsOwner-kept : (entries : List LockEntry) (e : LockEntry) (path : List ℕ) (owner : Option LockEntry) → owns e.location path ≡ false
-    → IsOwner entries path owner → IsOwner (entries ++ e ∷ []) path owner
-IsOwner-kept entries e path None not_mine h = λ x c. elim (Contains-append_cases entries (e ∷ []) x c) [
-  | inl before ↦ h x before
-  | inr last ↦ ap (λ (y : LockEntry). owns y.location path) (only e x last) ∙ not_mine
-]
-IsOwner-kept entries e path (Some o) not_mine h = (
-  Contains-append_left entries (e ∷ []) o h.0,
-  h.1,
-  λ x c mine. elim (Contains-append_cases entries (e ∷ []) x c) [
-    | inl before ↦ h.2 x before mine
-    | inr last ↦ absurd (false≢true (sym (ap (λ (y : LockEntry). owns y.location path) (only e x last) ∙ not_mine) ∙ mine))
-  ],
-)
-
 -- a new entry that owns the path is the owner where it is the first that does, or has the longer location
 pub IsOwner-first : (entries : List LockEntry) (e : LockEntry) (path : List ℕ) → owns e.location path ≡ true
     → IsOwner entries path None → IsOwner (entries ++ e ∷ []) path (Some e)
@@ -53,17 +37,6 @@ IsOwner-longer entries e o path mine l h = (
   mine,
   λ x c also. elim (Contains-append_cases entries (e ∷ []) x c) [
     | inl before ↦ omega (arith, h.2 x before also)
-    | inr last ↦ let same = ap (λ (y : LockEntry). length y.location) (only e x last) in omega arith
-  ],
-)
-
-pub IsOwner-shorter : (entries : List LockEntry) (e o : LockEntry) (path : List ℕ) → length e.location ≤ length o.location
-    → IsOwner entries path (Some o) → IsOwner (entries ++ e ∷ []) path (Some o)
-IsOwner-shorter entries e o path l h = (
-  Contains-append_left entries (e ∷ []) o h.0,
-  h.1,
-  λ x c also. elim (Contains-append_cases entries (e ∷ []) x c) [
-    | inl before ↦ h.2 x before also
     | inr last ↦ let same = ap (λ (y : LockEntry). length y.location) (only e x last) in omega arith
   ],
 )

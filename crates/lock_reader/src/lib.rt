@@ -8,8 +8,6 @@ mod lock;
 mod owner;
 mod place;
 mod read;
-#[cfg(test)]
-mod tests;
 
 pub use fault::LockFault;
 pub use lock::{Lock, LockEntry};

@@ -9,15 +9,11 @@ mod exports;
 mod fault;
 mod manifest;
 mod names;
-#[cfg(test)]
-mod package_tests;
 mod packages;
 mod pick;
 mod search;
 mod shape;
 mod target;
-#[cfg(test)]
-mod tests;
 
 pub use fault::ResolveFault;
 pub use target::{Target, entry_of, resolve};

@@ -12,9 +12,3 @@ IsFront-found n i j text front rest lacks has f r w =
     let ends : j ≡ i + 2 = has.ends in
     let place : n + length front + 2 ≡ n + (i + 2) = omega arith in
     (i, (drop j text, has.split), (λ k l h. lacks k l h.0 h.1), cc, cc)
-
--- what follows is shorter
-pub IsFront-shorter : (s a t : Stretch) → IsFront s a (Some t) → length t.text < length s.text
-IsFront-shorter s a t h =
-    let long : length (drop h.0 s.text) ≡ suc (suc (length h.1.0)) = ap length h.1.1 in
-    rw h.4 (omega (arith, length-drop h.0 s.text, length-drop (h.0 + 2) s.text))

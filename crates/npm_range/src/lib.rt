@@ -8,8 +8,6 @@ mod fault;
 mod prefix;
 mod range;
 mod stretch;
-#[cfg(test)]
-mod tests;
 
 pub use fault::RangeFault;
 pub use range::Range;

@@ -18,6 +18,3 @@ mod search;
 pub use follow::reach;
 pub use law::one_path;
 pub use routes::Reach;
-
-#[cfg(test)]
-mod tests;

@@ -16,10 +16,3 @@ pub use lines::text;
 pub use report::{Alarm, Counts, LineColumn, Note, Report};
 pub use shown::{PathStep, Shown};
 pub use values::json;
-
-#[cfg(test)]
-mod example_reports;
-#[cfg(test)]
-mod report_tests;
-#[cfg(test)]
-mod tests;

@@ -1,0 +1,383 @@
+ghost use Rattle.std.specs.Prelude.{◌≡◌, ◌<◌};
+
+use jam_app::{Status, run};
+use jam_base::{Gate, List, MemFolder, MemKeeper, MemSink, ModulePath, Steps, Text};
+use std::alloc::Global;
+use std::marker::{Brand, Sync};
+use std::process::Abort;
+use std::sync::ledger::{Blank, Ledger};
+use std::test::Fail;
+use std::thread::Threads;
+
+// What a run is over, and what it left.
+#[derive(Drop)]
+pub(crate) struct Bench {
+    pub(crate) folder: MemFolder,
+    pub(crate) out: MemSink,
+    pub(crate) err: MemSink,
+}
+
+// No files, and an output that takes all.
+pub(crate) fn empty_bench(alloc: Global) -> Bench {
+    Bench {
+        folder: MemFolder::new(alloc),
+        out: MemSink::new(alloc),
+        err: MemSink::new(alloc),
+    }
+}
+
+// A folder with this text at this path, whose call with this number fails, and an output with this room.
+fn set_up(alloc: Global, path: &str, text: &[u8], failing: u64, room: u64) -> Result<Bench, Fail> {
+    let mut folder = MemFolder::new(alloc);
+    let path = ModulePath::read(alloc, path)?.ok_or("path")?;
+    folder.add(path, text.to_vec(alloc)?)?;
+    folder.fail_at(List::of(vec![in alloc; failing]?));
+    let mut out = MemSink::new(alloc);
+    out.fail_after(room);
+    Ok(Bench {
+        folder,
+        out,
+        err: MemSink::new(alloc),
+    })
+}
+
+// A gate that no run may pass.
+#[derive(Drop)]
+struct Closed<'a, R>(&'a R);
+
+impl<'a, R: Abort + Sync> Gate for Closed<'a, R> {
+    fn at(&self, package: u32) {
+        assert!(self.0; false, "package {package}");
+    }
+}
+
+pub(crate) fn ran<R: Threads + Abort + Sync, L: Ledger>(
+    rt: &R,
+    alloc: Global,
+    bench: &mut Bench,
+    words: &[Text],
+    blank: Blank,
+) -> Status
+    requires name { blank.name ≡ L.name }
+    requires parts { blank.parts ≡ L.parts }
+    requires some { 0 < L.parts }
+{
+    let mut keeper = MemKeeper::new(alloc);
+    let mut steps = Steps::<L>::new(blank);
+    run(
+        rt,
+        alloc,
+        words,
+        &mut bench.folder,
+        &mut keeper,
+        &mut bench.out,
+        &mut bench.err,
+        &Closed(rt),
+        &mut steps,
+    )
+}
+
+// The words of a line, which stand between spaces.
+pub(crate) fn words_of(alloc: Global, line: &str) -> Result<Vec<Text>, Fail> {
+    let mut words = Vec::new(alloc);
+    for word in line.split(' ') {
+        words.push(Text::of(alloc, word)?)?;
+    }
+    Ok(words)
+}
+
+// Compares what a run left: its status, the output and the line on err.
+pub(crate) fn compare(
+    rt: &impl Abort,
+    bench: &Bench,
+    status: &Status,
+    number: u8,
+    out: &str,
+    err: &str,
+) {
+    assert_eq!(rt; status.number(), number, "{out}{err}");
+    assert_eq!(rt; bench.out.bytes(), out.as_bytes());
+    assert_eq!(rt; bench.err.bytes(), err.as_bytes());
+}
+
+#[test]
+fn a_text_is_taken_or_refused_at_its_place(rt: HostRuntime) -> Result<(), Fail> {
+    let alloc = rt.alloc();
+    for (text, number, err) in [
+        (b"".as_slice(), 0, ""),
+        (b" \t\r\n".as_slice(), 0, ""),
+        (
+            b"f()".as_slice(),
+            2,
+            "jam: index.js:1:4: not in the profile\n",
+        ),
+        (
+            b"f();\r\n\n g(; ".as_slice(),
+            2,
+            "jam: index.js:3:4: not in the profile\n",
+        ),
+        (
+            b"f(); \xc3\xa9".as_slice(),
+            2,
+            "jam: index.js:1:1: not in the profile\n",
+        ),
+        (
+            b"\xff".as_slice(),
+            2,
+            "jam: index.js:1:1: not in the profile\n",
+        ),
+    ] {
+        let mut bench = set_up(alloc, "index.js", text, 0, 99)?;
+        let words = words_of(alloc, "graph ./a/../index.js")?;
+        let status = ran::<HostRuntime, Brand>(
+            &rt,
+            alloc,
+            &mut bench,
+            words.as_slice(),
+            Blank::new(1),
+        );
+        compare(&rt, &bench, &status, number, "", err);
+    }
+    Ok(())
+}
+
+#[test]
+fn an_entry_is_a_file_that_can_be_code(rt: HostRuntime) -> Result<(), Fail> {
+    let alloc = rt.alloc();
+    let none = "jam: no entry\n";
+    let failed = "jam: read failed\n";
+    for (path, line, failing, number, err) in [
+        ("index.js", "graph none.js", 0, 2, none),
+        ("index.js", "graph ../index.js", 0, 2, none),
+        ("index.js", "graph index.js/", 0, 2, none),
+        ("index.js", "graph index.js/.", 0, 2, none),
+        ("index.js", "graph ..", 0, 2, none),
+        ("a/index.js", "graph .", 0, 2, none),
+        ("a", "graph a/b/..", 0, 2, none),
+        ("data.json", "graph data.json", 0, 2, none),
+        ("addon.node", "graph addon.node", 0, 2, none),
+        ("index.js", "graph index.js", 1, 3, failed),
+        ("index.js", "graph index.js", 2, 3, failed),
+        ("index.js", "graph index.js", 3, 0, ""),
+        ("index.js", "graph index", 0, 0, ""),
+        ("index.js", "graph .", 0, 0, ""),
+        ("a/index.js", "graph a", 0, 0, ""),
+        ("a/index.js", "graph a", 5, 3, failed),
+        ("a/index.js", "graph a", 6, 3, failed),
+    ] {
+        let mut bench = set_up(alloc, path, b"", failing, 99)?;
+        let words = words_of(alloc, line)?;
+        let status = ran::<HostRuntime, Brand>(
+            &rt,
+            alloc,
+            &mut bench,
+            words.as_slice(),
+            Blank::new(1),
+        );
+        compare(&rt, &bench, &status, number, "", err);
+    }
+    Ok(())
+}
+
+#[test]
+fn words_are_canonical_or_a_usage(rt: HostRuntime) -> Result<(), Fail> {
+    let alloc = rt.alloc();
+    let refused = "jam: a\\u005cb.js:1:1: not in the profile\n";
+    let no_lock = "jam: no lockfile\n";
+    let help = help_text(alloc)?;
+    let help = help.as_str();
+    for (line, number, err) in [
+        ("graph a\\b.js", 2, refused),
+        ("graph --skip-refused none.js", 2, "jam: no entry\n"),
+        ("audit a", 2, no_lock),
+        (
+            "audit a --entry=-x --format=json --skip-refused",
+            2,
+            no_lock,
+        ),
+        ("audit --format text --entry b a", 2, no_lock),
+        ("graph", 6, help),
+        ("graph -x", 6, help),
+        ("graph ", 6, help),
+        ("graph index.js more", 6, help),
+        ("graph --entry a b", 6, help),
+        ("graph --skip-refused --skip-refused b", 6, help),
+        ("graph --skip-refused=yes b", 6, help),
+        ("audit", 6, help),
+        ("audit a b", 6, help),
+        ("audit a --entry", 6, help),
+        ("audit a --entry=", 6, help),
+        ("audit a --entry -b", 6, help),
+        ("audit a --entry b --entry=c", 6, help),
+        ("audit a --format xml", 6, help),
+        ("audit a --format=json --format json", 6, help),
+        ("audit a --formats json", 6, help),
+        ("summary a", 6, help),
+        ("--help", 6, help),
+    ] {
+        let mut bench = set_up(alloc, "a\\b.js", b"?", 0, 0)?;
+        let words = words_of(alloc, line)?;
+        let status = ran::<HostRuntime, Brand>(
+            &rt,
+            alloc,
+            &mut bench,
+            words.as_slice(),
+            Blank::new(1),
+        );
+        compare(&rt, &bench, &status, number, "", err);
+    }
+    Ok(())
+}
+
+#[test]
+fn the_help_text_has_each_command_and_option(rt: HostRuntime) -> Result<(), Fail> {
+    let alloc = rt.alloc();
+    let help = help_text(alloc)?;
+    assert_eq!(rt; help.as_str(), "");
+    Ok(())
+}
+
+#[test]
+fn calls_have_edges_to_what_their_names_declare(rt: HostRuntime) -> Result<(), Fail> {
+    let alloc = rt.alloc();
+    for (text, out) in [
+        (
+            "function f() { g(); }\nfunction g() { }\nf();\n",
+            "index.js:1:17 -> index.js:2:1 g\nindex.js:3:2 -> index.js:1:1 f\n",
+        ),
+        (
+            "function f() { }\nfunction f() { }\nf();\n",
+            "index.js:3:2 -> index.js:1:1 f\nindex.js:3:2 -> index.js:2:1 f\n",
+        ),
+        (
+            "function f() { }\nfunction g() {\n  function f() { }\n  f();\n}\nf();\n",
+            "index.js:4:4 -> index.js:3:3 f\nindex.js:6:2 -> index.js:1:1 f\n",
+        ),
+        (
+            "g(); require(); exports(); setTimeout();\nfunction f() { arguments(); }\n",
+            "",
+        ),
+        (
+            "require();\nfunction require() { }\n",
+            "index.js:1:8 -> index.js:2:1 require\n",
+        ),
+        (
+            "function f() { f(); }\nfunction g() { h(); }\nfunction h() { g(); }\n",
+            "index.js:1:17 -> index.js:1:1 f\nindex.js:2:17 -> index.js:3:1 h\nindex.js:3:17 -> index.js:2:1 g\n",
+        ),
+    ] {
+        let mut bench = set_up(alloc, "index.js", text.as_bytes(), 0, 99)?;
+        let words = words_of(alloc, "graph index.js")?;
+        let status = ran::<HostRuntime, Brand>(
+            &rt,
+            alloc,
+            &mut bench,
+            words.as_slice(),
+            Blank::new(1),
+        );
+        compare(&rt, &bench, &status, 0, out, "");
+    }
+    Ok(())
+}
+
+#[test]
+fn calls_have_edges_to_what_comes_to_their_callee(rt: HostRuntime) -> Result<(), Fail> {
+    let alloc = rt.alloc();
+    for (text, out) in [
+        (
+            "exports.go = function () { };\nexports.go();\n",
+            "index.js:2:11 -> index.js:1:14 go\n",
+        ),
+        (
+            "exports.f = function () { exports.g(); };\nexports.g = function () { };\n",
+            "index.js:1:36 -> index.js:2:13 g\n",
+        ),
+        (
+            "exports.forEach = function () { };\na.forEach();\n",
+            "index.js:2:10 -> index.js:1:19 forEach\n",
+        ),
+        (
+            "function f() { }\nf.call();\nf.apply();\nf.bind();\nf.go();\n",
+            "index.js:2:7 -> index.js:1:1 f\nindex.js:3:8 -> index.js:1:1 f\nindex.js:4:7 -> index.js:1:1 f\n",
+        ),
+        (
+            "var a = require(\"./a\");\na.go();\na();\nrequire(\"../b\");\nvar exports = require(\"./c\");\nexports();\n",
+            "",
+        ),
+        (
+            "function f() { var g = require(\"./g\"); g(); }\nfunction g() { }\ng();\n",
+            "index.js:3:2 -> index.js:2:1 g\n",
+        ),
+        (
+            "function require() { }\nvar a = require(\"./a\");\n",
+            "index.js:2:16 -> index.js:1:1 require\n",
+        ),
+    ] {
+        let mut bench = set_up(alloc, "index.js", text.as_bytes(), 0, 99)?;
+        let words = words_of(alloc, "graph index.js")?;
+        let status = ran::<HostRuntime, Brand>(
+            &rt,
+            alloc,
+            &mut bench,
+            words.as_slice(),
+            Blank::new(1),
+        );
+        compare(&rt, &bench, &status, 0, out, "");
+    }
+    Ok(())
+}
+
+#[test]
+fn a_fault_ends_the_run_where_it_occurs(rt: HostRuntime) -> Result<(), Fail> {
+    let alloc = rt.alloc();
+    for (failing, room, number, out, err) in [
+        (0, 4, 4, "inde", "jam: write failed\n"),
+        (1, 99, 3, "", "jam: read failed\n"),
+        (2, 99, 3, "", "jam: read failed\n"),
+    ] {
+        let text = b"function f() { g(); }\nfunction g() { }\nf();\n".as_slice();
+        let mut bench = set_up(alloc, "index.js", text, failing, room)?;
+        let words = words_of(alloc, "graph index.js")?;
+        let status = ran::<HostRuntime, Brand>(
+            &rt,
+            alloc,
+            &mut bench,
+            words.as_slice(),
+            Blank::new(1),
+        );
+        compare(&rt, &bench, &status, number, out, err);
+    }
+    Ok(())
+}
+
+#[test]
+fn a_failing_error_output_changes_nothing_else(rt: HostRuntime) -> Result<(), Fail> {
+    let alloc = rt.alloc();
+    for (line, failing, room, number, out) in [
+        (
+            "graph index.js",
+            0,
+            99,
+            0,
+            "index.js:2:2 -> index.js:1:1 f\n",
+        ),
+        ("graph none.js", 0, 99, 2, ""),
+        ("graph index.js", 1, 99, 3, ""),
+        ("graph index.js", 0, 4, 4, "inde"),
+        ("graph", 0, 99, 6, ""),
+    ] {
+        let text = b"function f() { }\nf();\n".as_slice();
+        let mut bench = set_up(alloc, "index.js", text, failing, room)?;
+        bench.err.fail_after(0);
+        let words = words_of(alloc, line)?;
+        let status = ran::<HostRuntime, Brand>(
+            &rt,
+            alloc,
+            &mut bench,
+            words.as_slice(),
+            Blank::new(1),
+        );
+        compare(&rt, &bench, &status, number, out, "");
+    }
+    Ok(())
+}

@@ -1,4 +1,0 @@
-use Rattle.composer.proofs.tests.a_native_calls_what_it_is_given.Given as goal
-
-abbrev pub ghosts-graph_of : goal.ghosts-graph_of
-ghosts-graph_of g a = record { name = a.blank.name; parts = a.blank.parts }
