@@ -1,3 +1,4 @@
 pub mod AddsLemmas
+pub mod PackageLemmas
 pub mod SearchLemmas
 pub mod SortLemmas

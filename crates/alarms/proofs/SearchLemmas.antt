@@ -1,7 +1,8 @@
 -- The search for alarms.
 use Rattle.std.proofs.Common.{◌≡◌, ℕ, ◌+◌, ◌<◌, ◌≤◌, ◌⊎◌, ◌&&◌, inl, inr, Bool, true, false, true≢false, List, [], ◌∷◌, ◌++◌, length, Option, Some, None, refl, sym, ap, subst, ◌∙◌, arith}
 use Rattle.std.specs.Prelude.{Contains, slice_get}
-use Rattle.std.proofs.lemmas.Option.{same_Some, none-some, slice_get_within, get_or_from_slice_get}
+use Rattle.std.specs.Str.{bytes_eq}
+use Rattle.std.proofs.lemmas.Option.{same_Some, none-some, slice_get_read, slice_get_within, get_or_from_slice_get}
 use Rattle.jam_base.specs.declared.edge.FunctionRef.{FunctionRef}
 use Rattle.js_scopes.specs.declared.function.FunctionInfo.{FunctionInfo}
 use Rattle.lock_reader.specs.Lock.{IsAscending}
@@ -13,11 +14,13 @@ use Rattle.advisory_reader.specs.declared.advisory.Selector.{Selector}
 use Rattle.composer.specs.declared.application.Part.{Part}
 use Rattle.alarms.specs.Affected.{inside, names_any}
 use Rattle.alarms.specs.Alarms.{IsAlarm}
-use Rattle.alarms.specs.Searching.{Adds, Hits, HitsAny, HitsBy, HitsOne, OfModule, alarm_for, function_at}
-use Rattle.alarms.specs.Versions.{concerns}
+use Rattle.alarms.specs.Searching.{Adds, Hits, HitsAny, HitsAt, HitsBy, HitsOne, OfModule, alarm_for, function_at}
+use Rattle.alarms.specs.Packages.{places_of}
+use Rattle.alarms.specs.Versions.{concerns, holds_for, version_of}
 use Rattle.alarms.specs.declared.found.Found.{Found}
 use Rattle.alarms.specs.declared.search.Owned.{Owned}
 use Rattle.alarms.proofs.AddsLemmas.{Adds-nothing, Adds-one, Adds-same, Adds-then}
+use Rattle.alarms.proofs.PackageLemmas.{has_place}
 
 -- ---- one function
 
@@ -91,20 +94,27 @@ pub advisory_passed : (reached : FunctionRef → Bool) (i : ℕ) (advisory : Adv
     → Adds (HitsBy reached i advisory owned) xs xs
 advisory_passed reached i advisory owned xs no_ = Adds-nothing (HitsBy reached i advisory owned) xs (λ x h. true≢false (sym h.concerned ∙ no_))
 
-pub all_advisories : (reached : FunctionRef → Bool) (advisories : List Advisory) (owned : Owned) (xs zs : List Found)
-    → Adds (Below (λ i advisory. HitsBy reached i advisory owned) advisories (length advisories)) xs zs → Adds (HitsAny reached advisories owned) xs zs
-all_advisories reached advisories owned xs zs a =
-    let P : ℕ → Advisory → Found → Type 0 = λ i advisory. HitsBy reached i advisory owned in
-    Adds-same (Below P advisories (length advisories)) (HitsAny reached advisories owned) xs zs a
-    (λ x b. record { i = b.place; advisory = b.item; here = b.here; hits = b.holds })
-    (λ x h. below_all P advisories x h.i h.advisory h.here h.hits)
-
--- ---- a module
-
 both_true : (a b : Bool) → (a && b) ≡ true → (a ≡ true) × (b ≡ true)
 both_true true true e = (refl, refl)
 both_true true false e = absurd (true≢false (sym e))
 both_true false b e = absurd (true≢false (sym e))
+
+-- the places of a package have all advisories that speak of it
+pub all_places : (reached : FunctionRef → Bool) (advisories : List Advisory) (owned : Owned) (places : List ℕ) (xs zs : List Found) → places ≡ places_of advisories owned.entry.now.name
+    → Adds (Below (λ k place. HitsAt reached advisories owned place) places (length places)) xs zs → Adds (HitsAny reached advisories owned) xs zs
+all_places reached advisories owned places xs zs places_are a =
+    let P : ℕ → ℕ → Found → Type 0 = λ k place. HitsAt reached advisories owned place in
+    Adds-same (Below P places (length places)) (HitsAny reached advisories owned) xs zs a
+    (λ x b. record { i = b.item; at = b.holds })
+    (λ x h. (
+        let entry = owned.entry.now in
+        let advisory = h.at.advisory in
+        let named : bytes_eq entry.name advisory.package ≡ true = (both_true (bytes_eq entry.name advisory.package) (holds_for advisory.range (version_of entry)) h.at.hits.concerned).0 in
+        let there : Contains places h.i = subst (λ (ps : List ℕ). Contains ps h.i) (sym places_are) (has_place 0 entry.name advisories h.i advisory h.at.here named) in
+        below_all P places x there.0 h.i (slice_get_read places (length places) there.0 h.i refl there.1 (sym there.2)) h.at
+        ))
+
+-- ---- a module
 
 true_both : (a b : Bool) → a ≡ true → b ≡ true → (a && b) ≡ true
 true_both true true x y = refl
@@ -116,14 +126,15 @@ module _ (entries : List LockEntry) (advisories : List Advisory) (parts : List P
     (inside_is : owned.inside.now ≡ inside owned.entry.now.location part.path) (functions_are : owned.functions.now ≡ part.summary.lists.functions) where
   alarm_of : (x : Found) → HitsAny reached advisories owned x → OfModule entries advisories parts reached owned.m x
   alarm_of x any =
-      let by = any.hits in
+      let at = any.at in
+      let by = at.hits in
       let hits = by.hits in
       let one = hits.hits in
-      let both = both_true (reached (function_at owned hits.f)) (names_any owned.inside.now hits.function.name any.advisory.functions) one.hit in
+      let both = both_true (reached (function_at owned hits.f)) (names_any owned.inside.now hits.function.name at.advisory.functions) one.hit in
       record {
         alarm = record {
-          advisory = any.advisory;
-          advisory_at = ap (λ (y : Found). slice_get advisories y.advisory) one.is ∙ any.here;
+          advisory = at.advisory;
+          advisory_at = ap (λ (y : Found). slice_get advisories y.advisory) one.is ∙ at.here;
           entry = owned.entry.now;
           entry_at = ap (λ (y : Found). slice_get entries y.entry) one.is ∙ entry_at;
           part = part;
@@ -133,7 +144,7 @@ module _ (entries : List LockEntry) (advisories : List Advisory) (parts : List P
           concerned = by.concerned;
           owner = owner;
           reachable = ap (λ (y : Found). reached y.function) one.is ∙ both.0;
-          named = ap (λ t. names_any t hits.function.name any.advisory.functions) (sym inside_is) ∙ both.1;
+          named = ap (λ t. names_any t hits.function.name at.advisory.functions) (sym inside_is) ∙ both.1;
         };
         module_is = ap (λ (y : Found). y.function.module) one.is;
       }
@@ -150,19 +161,21 @@ module _ (entries : List LockEntry) (advisories : List Advisory) (parts : List P
       let is : x ≡ alarm_for owned x.advisory x.function.function = λ k. record { advisory = x.advisory; entry = same_place k; function = record { «module» = of.module_is k; function = x.function.function } } in
       record {
         i = x.advisory;
-        advisory = alarm.advisory;
-        here = alarm.advisory_at;
-        hits = record {
-          concerned = ap (concerns alarm.advisory) (sym same_entry) ∙ alarm.concerned;
+        at = record {
+          advisory = alarm.advisory;
+          here = alarm.advisory_at;
           hits = record {
-            f = x.function.function;
-            function = alarm.function;
-            here = ap (λ fs. slice_get fs x.function.function) functions_are ∙ ap (λ (p : Part). slice_get p.summary.lists.functions x.function.function) (sym same_part) ∙ alarm.function_at;
+            concerned = ap (concerns alarm.advisory) (sym same_entry) ∙ alarm.concerned;
             hits = record {
-              is = is;
-              hit = true_both (reached function) (names_any owned.inside.now alarm.function.name alarm.advisory.functions)
-                  (ap (λ (y : Found). reached y.function) (sym is) ∙ alarm.reachable)
-                  (ap (λ t. names_any t alarm.function.name alarm.advisory.functions) inside_is ∙ (λ k. names_any (inside (sym same_entry k).location (sym same_part k).path) alarm.function.name alarm.advisory.functions) ∙ alarm.named);
+              f = x.function.function;
+              function = alarm.function;
+              here = ap (λ fs. slice_get fs x.function.function) functions_are ∙ ap (λ (p : Part). slice_get p.summary.lists.functions x.function.function) (sym same_part) ∙ alarm.function_at;
+              hits = record {
+                is = is;
+                hit = true_both (reached function) (names_any owned.inside.now alarm.function.name alarm.advisory.functions)
+                    (ap (λ (y : Found). reached y.function) (sym is) ∙ alarm.reachable)
+                    (ap (λ t. names_any t alarm.function.name alarm.advisory.functions) inside_is ∙ (λ k. names_any (inside (sym same_entry k).location (sym same_part k).path) alarm.function.name alarm.advisory.functions) ∙ alarm.named);
+              };
             };
           };
         };

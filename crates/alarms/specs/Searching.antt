@@ -42,12 +42,16 @@ pub record HitsBy (reached : FunctionRef → Bool) (i : ℕ) (advisory : Advisor
   pub concerned : concerns advisory owned.entry.now ≡ true
   pub hits : Hits reached i advisory.functions owned found
 
--- and of one of the advisories
-pub record HitsAny (reached : FunctionRef → Bool) (advisories : List Advisory) (owned : Owned) (found : Found) : Type 0 where
-  pub i : ℕ
+-- and of the advisory at this place
+pub record HitsAt (reached : FunctionRef → Bool) (advisories : List Advisory) (owned : Owned) (i : ℕ) (found : Found) : Type 0 where
   pub advisory : Advisory
   pub here : slice_get advisories i ≡ Some advisory
   pub hits : HitsBy reached i advisory owned found
+
+-- and of one of the advisories
+pub record HitsAny (reached : FunctionRef → Bool) (advisories : List Advisory) (owned : Owned) (found : Found) : Type 0 where
+  pub i : ℕ
+  pub at : HitsAt reached advisories owned i found
 
 -- an alarm for a function of module m
 pub record OfModule (entries : List LockEntry) (advisories : List Advisory) (parts : List Part) (reached : FunctionRef → Bool) (m : ℕ) (found : Found) : Type 0 where

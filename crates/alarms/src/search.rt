@@ -1,6 +1,6 @@
 //! The search for alarms: module by module, the advisories that speak of the package which owns it, and
 //! its functions.
-ghost use Rattle.std.specs.Prelude.{◌≡◌, ◌≤◌, ◌&&◌, List, length, IfOk, OnOk, Some, is_some, slice_get};
+ghost use Rattle.std.specs.Prelude.{◌≡◌, ◌<◌, ◌&&◌, List, length, IfOk, OnOk, Some, is_some, slice_get};
 ghost use Rattle.std.specs.Option.{option_map};
 ghost use Rattle.semver.specs.Identifiers.{parts_of};
 ghost use Rattle.composer.specs.declared.application.Part.{Part as AnyPart};
@@ -8,11 +8,12 @@ ghost use Rattle.lock_reader.specs.Lock.{IsAscending};
 ghost use Rattle.reach_path.specs.Reached.{path_to};
 ghost use Rattle.alarms.specs.Affected as affected;
 ghost use Rattle.alarms.specs.Alarms.{AreAlarms};
-ghost use Rattle.alarms.specs.Searching.{Adds, Hits, HitsAny, HitsBy, HitsOne, OfModule};
+ghost use Rattle.alarms.specs.Searching.{Adds, Hits, HitsAny, HitsAt, HitsBy, HitsOne, OfModule};
 ghost use Rattle.alarms.specs.Versions as versions;
 
 use crate::affected::{inside, names_any};
 use crate::found::Found;
+use crate::packages::{ByPackage, number};
 use crate::version::version_of;
 use advisory_reader::{Advisory, Selector};
 use composer::Part;
@@ -36,12 +37,13 @@ pub fn alarms(
     requires ascending { IsAscending lock.now.entries }
     ensures { IfOk result (λ found. AreAlarms lock.now.entries advisories.now parts.now (λ f. is_some (path_to reach.now f)) found.items) }
 {
+    let by_package = ByPackage::of(alloc, advisories)?;
     let mut found = Vec::new(alloc);
     for m in 0..parts.len() {
         push_module(
             alloc,
             lock,
-            advisories,
+            &by_package,
             reach,
             number(m)?,
             &parts[m],
@@ -53,21 +55,11 @@ pub fn alarms(
     Ok(found)
 }
 
-// A place in a list as a number.
-fn number(place: usize) -> Result<u32, OutOfMemory>
-    ensures { IfOk result (λ n. n ≡ place) }
-{
-    match u32::try_from(place) {
-        Ok(number) => Ok(number),
-        Err(_) => Err(OutOfMemory),
-    }
-}
-
 // Adds the alarms for the functions of module m.
 fn push_module(
     alloc: Global,
     lock: &Lock,
-    advisories: &[Advisory],
+    advisories: &ByPackage<'_>,
     reach: &Reach,
     m: u32,
     part: &Part,
@@ -136,17 +128,34 @@ impl<'s> Owned<'s> {
     // Adds the alarms of all advisories.
     fn push_all(
         &self,
-        advisories: &[Advisory],
+        advisories: &ByPackage<'_>,
         reach: &Reach,
         found: &mut Vec<Found>,
     ) -> Result<(), OutOfMemory>
         requires { option_map parts_of self.now.version ≡ versions.version_of self.now.entry.now }
         ensures { OnOk result (Adds (HitsAny (λ f. is_some (path_to reach.now f)) advisories.now self.now) found.old.items found.new.items) }
     {
-        for i in 0..advisories.len() {
-            self.push_advisory(number(i)?, &advisories[i], reach, found)?;
+        let places = advisories.places(self.entry.name.as_str());
+        for k in 0..places.len() {
+            self.push_at(places[k], advisories, reach, found)?;
         }
         Ok(())
+    }
+
+    // Adds the alarms of the advisory at a place.
+    fn push_at(
+        &self,
+        place: u32,
+        advisories: &ByPackage<'_>,
+        reach: &Reach,
+        found: &mut Vec<Found>,
+    ) -> Result<(), OutOfMemory>
+        requires version { option_map parts_of self.now.version ≡ versions.version_of self.now.entry.now }
+        requires there { place < length advisories.now }
+        ensures { OnOk result (Adds (HitsAt (λ f. is_some (path_to reach.now f)) advisories.now self.now place) found.old.items found.new.items) }
+    {
+        let advisory = &advisories.all()[place as usize];
+        self.push_advisory(place, advisory, reach, found)
     }
 
     // Adds the alarms of the advisory at place i, if it speaks of the package.

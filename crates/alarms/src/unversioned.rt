@@ -3,6 +3,7 @@ ghost use Rattle.std.specs.Prelude.{◌≡◌, IfOk, is_some};
 ghost use Rattle.alarms.specs.Alarms as specs_of;
 ghost use Rattle.alarms.specs.Versions.{version_of as version_in_entry};
 
+use crate::packages::ByPackage;
 use crate::version::version_of;
 use advisory_reader::Advisory;
 use jam_base::{OutOfMemory, Text};
@@ -18,19 +19,16 @@ fn has_version(alloc: Global, entry: &LockEntry) -> Result<bool, OutOfMemory>
 }
 
 // Whether the package has the name of an advisory's package.
-fn is_advised(advisories: &[Advisory], entry: &LockEntry) -> bool
+fn is_advised(advisories: &ByPackage<'_>, entry: &LockEntry) -> bool
     ensures { result ≡ specs_of.is_advised advisories.now entry.now }
 {
-    let name = entry.name.as_str();
-    advisories
-        .iter()
-        .any(|advisory| name == advisory.package.as_str())
+    advisories.has(entry.name.as_str())
 }
 
 // Whether the package has the name of an advisory's package, and no version.
 fn lacks_version(
     alloc: Global,
-    advisories: &[Advisory],
+    advisories: &ByPackage<'_>,
     entry: &LockEntry,
 ) -> Result<bool, OutOfMemory>
     ensures { IfOk result (λ lacks. lacks ≡ specs_of.lacks_version advisories.now entry.now) }
@@ -48,9 +46,10 @@ pub fn locations_without_version(
 ) -> Result<Vec<Text>, OutOfMemory>
     ensures { IfOk result (λ made. made.items ≡ specs_of.unversioned advisories.now lock.now.entries) }
 {
+    let by_package = ByPackage::of(alloc, advisories)?;
     let mut locations = Vec::new(alloc);
     for entry in lock.entries.as_slice() {
-        if lacks_version(alloc, advisories, entry)? {
+        if lacks_version(alloc, &by_package, entry)? {
             locations.push(entry.location.copy(alloc)?)?;
         }
     }

@@ -9,6 +9,9 @@ use std::sync::ledger::{Blank, Ledger};
 use std::test::Fail;
 use std::thread::Threads;
 
+const HELP: &str =
+    "Tells which functions that advisories name an application can call. Run it in the application folder.\n\nUsage: jam <COMMAND>\n\nCommands:\n  audit  Report which functions that the advisories in a file name the application can call\n  graph  Print the calls that the application of an entry file can make\n\nReport which functions that the advisories in a file name the application can call\n\nUsage: jam audit [OPTIONS] <ADVISORIES>\n\nArguments:\n  <ADVISORIES>  The file of advisories, by its path from the application folder\n\nOptions:\n      --entry <PATH>     The file that the application begins with, as `require` would find it\n      --format <FORMAT>  How the report is written: text or json\n      --skip-refused     Pass over modules outside the profile, with a note, in place of refusing them\n\nExample: jam audit --format json advisories.json\n\nPrint the calls that the application of an entry file can make\n\nUsage: jam graph [OPTIONS] <FILE>\n\nArguments:\n  <FILE>  The file that the application begins with, as `require` would find it\n\nOptions:\n      --skip-refused  Pass over modules outside the profile, with a note, in place of refusing them\n\nExample: jam graph index.js\n";
+
 // What a run is over, and what it left.
 #[derive(Drop)]
 pub(crate) struct Bench {
@@ -184,8 +187,6 @@ fn words_are_canonical_or_a_usage(rt: HostRuntime) -> Result<(), Fail> {
     let alloc = rt.alloc();
     let refused = "jam: a\\u005cb.js:1:1: not in the profile\n";
     let no_lock = "jam: no lockfile\n";
-    let help = help_text(alloc)?;
-    let help = help.as_str();
     for (line, number, err) in [
         ("graph a\\b.js", 2, refused),
         ("graph --skip-refused none.js", 2, "jam: no entry\n"),
@@ -196,24 +197,24 @@ fn words_are_canonical_or_a_usage(rt: HostRuntime) -> Result<(), Fail> {
             no_lock,
         ),
         ("audit --format text --entry b a", 2, no_lock),
-        ("graph", 6, help),
-        ("graph -x", 6, help),
-        ("graph ", 6, help),
-        ("graph index.js more", 6, help),
-        ("graph --entry a b", 6, help),
-        ("graph --skip-refused --skip-refused b", 6, help),
-        ("graph --skip-refused=yes b", 6, help),
-        ("audit", 6, help),
-        ("audit a b", 6, help),
-        ("audit a --entry", 6, help),
-        ("audit a --entry=", 6, help),
-        ("audit a --entry -b", 6, help),
-        ("audit a --entry b --entry=c", 6, help),
-        ("audit a --format xml", 6, help),
-        ("audit a --format=json --format json", 6, help),
-        ("audit a --formats json", 6, help),
-        ("summary a", 6, help),
-        ("--help", 6, help),
+        ("graph", 6, HELP),
+        ("graph -x", 6, HELP),
+        ("graph ", 6, HELP),
+        ("graph index.js more", 6, HELP),
+        ("graph --entry a b", 6, HELP),
+        ("graph --skip-refused --skip-refused b", 6, HELP),
+        ("graph --skip-refused=yes b", 6, HELP),
+        ("audit", 6, HELP),
+        ("audit a b", 6, HELP),
+        ("audit a --entry", 6, HELP),
+        ("audit a --entry=", 6, HELP),
+        ("audit a --entry -b", 6, HELP),
+        ("audit a --entry b --entry=c", 6, HELP),
+        ("audit a --format xml", 6, HELP),
+        ("audit a --format=json --format json", 6, HELP),
+        ("audit a --formats json", 6, HELP),
+        ("summary a", 6, HELP),
+        ("--help", 6, HELP),
     ] {
         let mut bench = set_up(alloc, "a\\b.js", b"?", 0, 0)?;
         let words = words_of(alloc, line)?;
@@ -226,14 +227,6 @@ fn words_are_canonical_or_a_usage(rt: HostRuntime) -> Result<(), Fail> {
         );
         compare(&rt, &bench, &status, number, "", err);
     }
-    Ok(())
-}
-
-#[test]
-fn the_help_text_has_each_command_and_option(rt: HostRuntime) -> Result<(), Fail> {
-    let alloc = rt.alloc();
-    let help = help_text(alloc)?;
-    assert_eq!(rt; help.as_str(), "");
     Ok(())
 }
 

@@ -1,5 +1,5 @@
 -- Modules without a tree.
-use Rattle.std.proofs.Common.{refl, ◌≡◌, ℕ, ◌∷◌, ◌++◌, List, map, sym, subst, Bool, false, Option, Some, None}
+use Rattle.std.proofs.Common.{refl, arith, ◌≡◌, ℕ, ◌∷◌, ◌++◌, List, map, sym, subst, Bool, false, Option, Some, None}
 use Rattle.std.specs.Prelude.{All, Contains}
 use Rattle.std.proofs.lemmas.List.Elements.{All-contains, All-map, All-weaker, Contains-append_right}
 use Rattle.jam_base.specs.Files.{Files}
@@ -26,6 +26,12 @@ bad_stop skip path bytes (bad.TooLarge n) files before now stop unskipped cause 
     refused_stop (λ m owed. (skip ≡ false) × IsRefusedFor path bytes owed) (refusal.TooLarge path n) files before now stop is (any_files files (λ m. (unskipped, subst (λ k. IsRefusedFor path bytes (refusal.TooLarge path k)) (sym cause.1) (too_large cause.0))))
 bad_stop skip path bytes (bad.At place) files before now stop unskipped cause is =
     refused_stop (λ m owed. (skip ≡ false) × IsRefusedFor path bytes owed) (refusal.NotInProfile path place.offset) files before now stop is (any_files files (λ m. (unskipped, not_in_profile place.offset cause.0 cause.1 cause.2)))
+
+-- a file that has none is bad, where that is no want of memory
+pub is_bad : (bytes : List ℕ) (b : Bad) → (b ≡ bad.OutOfMemory → ⊥) → HasBadCause bytes b → IsBad bytes
+is_bad bytes bad.OutOfMemory some cause = absurd (some refl)
+is_bad bytes (bad.TooLarge n) some cause = λ tree spelled. absurd (omega (arith, cause.0, spelled.spells.fits))
+is_bad bytes (bad.At place) some cause = cause.0
 
 -- files that have a tree aren't bad, where such files aren't skipped
 none_bad : (skip : Bool) (parsed : List Parsed) (sources : List Source) → skip ≡ false → map (λ (p : Parsed). p.source) parsed ≡ sources → All (IsParsed skip) parsed → All (λ s. IsBad s.bytes.items → ⊥) sources

@@ -10,18 +10,18 @@ use Rattle.jam_app.specs.declared.answers.refusal.Refusal.{Refusal}
 use Rattle.jam_app.specs.declared.answers.refusal.Refusal.TheVariants as refusal
 use Rattle.jam_app.specs.declared.answers.stop.Stop.{Stop}
 use Rattle.jam_app.specs.declared.audit.report.Output.{Output}
-use Rattle.jam_app.specs.declared.commands.table.Command.{Command}
-use Rattle.jam_app.specs.declared.commands.table.Command.TheVariants as command
+use Rattle.word_reader.specs.declared.table.Command.{Command}
+use Rattle.word_reader.specs.declared.table.Command.TheVariants as command
 use Rattle.jam_app.specs.declared.loading.loaded.Loaded.{Loaded}
 use Rattle.jam_app.specs.AuditFiles.{HasAdvisories, HasLock}
 use Rattle.jam_app.specs.Audits.{IsReport, is_alarmed, written}
-use Rattle.jam_app.specs.Entries.{Start, begun}
+use Rattle.jam_app.specs.Entries.{Start, begun, start_of}
 use Rattle.jam_app.specs.Graphs.{IsGraphText}
 use Rattle.jam_app.specs.Loading.{IsWhole, loaded_size}
 use Rattle.jam_app.specs.Outcomes.{IsOwedText, IsTextOf, IsUnrefused}
 use Rattle.jam_app.specs.Refusals as refusals
 use Rattle.jam_app.specs.Refusals.{IsRefusal, ReadsFiles}
-use Rattle.jam_app.specs.Requests.{Asked, entry_asked, start_of}
+use Rattle.word_reader.specs.Requests.{Asked, entry_asked}
 use Rattle.jam_app.specs.Stops.{HasStopCause, IsOwed, StopsWide}
 use Rattle.jam_app.proofs.Causes.{refused_stop, told}
 use Rattle.jam_app.proofs.FileLemmas.{advisories_apart, lock_apart}

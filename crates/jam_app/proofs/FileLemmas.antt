@@ -7,6 +7,7 @@ use Rattle.jam_base.specs.Files.{Files}
 use Rattle.lock_reader.specs.Lock.{lock_of}
 use Rattle.lock_reader.specs.declared.fault.LockFault.{LockFault}
 use Rattle.lock_reader.specs.declared.fault.LockFault.TheVariants as lock_fault
+use Rattle.lock_reader.specs.declared.lock.Lock.{Lock}
 use Rattle.lock_reader.specs.declared.lock.LockEntry.{LockEntry}
 use Rattle.advisory_reader.specs.Advisories.{IsFault, SpellsAdvisories}
 use Rattle.advisory_reader.specs.declared.advisory.Advisory.{Advisory}
@@ -18,7 +19,7 @@ use Rattle.jam_app.specs.declared.answers.refusal.Refusal.TheVariants as refusal
 use Rattle.jam_app.specs.declared.answers.stop.Stop.{Stop}
 use Rattle.jam_app.specs.declared.answers.stop.Stop.TheVariants.{OutOfMemory}
 use Rattle.jam_app.specs.AuditFiles.{HasAdvisories, HasLock, IsAdvisoryRefusal, IsLockRefusal, advisory, file_named, lock, lock_file, no_advisories, no_lock}
-use Rattle.jam_app.specs.Stops.{HasStopCause, StopsForAdvisories, StopsForBytes, StopsForLock, StopsForText}
+use Rattle.jam_app.specs.Stops.{Gives, HasStopCause, StopsForAdvisories, StopsForBytes, StopsForLock, StopsForText}
 use Rattle.jam_app.proofs.Causes.{refused_stop, told}
 
 -- ---- one of them at most
@@ -85,3 +86,14 @@ pub advisory_cause : (name bytes : List ℕ) (files : Option Files) (before now 
 advisory_cause name bytes files before now stop file (inl none) = subst (HasStopCause (λ m owed. IsAdvisoryRefusal m name owed) files before now) (sym none) tt
 advisory_cause name bytes files before now stop file (inr (fault, wrong, refuses)) =
     refused_stop (λ m owed. IsAdvisoryRefusal m name owed) (refusal.Advisory fault) files before now stop refuses (told files file (λ m e. advisory bytes fault e wrong))
+
+-- what a file that is to be the lockfile, or that of the advisories, gives
+pub lock_given : (name bytes : List ℕ) (files : Option Files) (before now : ℕ) (result : Result Lock Stop) → IfSome files (λ m. lock_file m ≡ Some (name, bytes)) → IfOk result (λ l. lock_of bytes ≡ Ok l.entries)
+    → IfErr result (StopsForBytes bytes) → Gives (λ m l. HasLock m l.entries) IsLockRefusal files before now result
+lock_given name bytes files before now (Ok l) file read stops = told files file (λ m e. record { name = name; bytes = bytes; file = e; read = read })
+lock_given name bytes files before now (Err stop) file read stops = lock_cause name bytes files before now stop file stops
+
+pub advisories_given : (name bytes : List ℕ) (files : Option Files) (before now : ℕ) (result : Result (List Advisory) Stop) → IfSome files (λ m. file_named m name ≡ Some bytes) → IfOk result (λ list. SpellsAdvisories bytes list)
+    → IfErr result (StopsForText bytes) → Gives (λ m list. HasAdvisories m name list) (λ m owed. IsAdvisoryRefusal m name owed) files before now result
+advisories_given name bytes files before now (Ok list) file read stops = told files file (λ m e. record { bytes = bytes; file = e; spelled = read })
+advisories_given name bytes files before now (Err stop) file read stops = advisory_cause name bytes files before now stop file stops

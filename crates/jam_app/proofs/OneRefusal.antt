@@ -14,11 +14,11 @@ use Rattle.jam_app.specs.Refusals.{IsFirstBad, IsOneTooMany, IsReached, IsLoadRe
 use Rattle.jam_app.specs.Rounds.{Fits, IsApplication, IsRound, bytes_at}
 use Rattle.lock_reader.specs.declared.lock.LockEntry.{LockEntry}
 use Rattle.advisory_reader.specs.declared.advisory.Advisory.{Advisory}
-use Rattle.jam_app.specs.declared.commands.table.Command.{Command}
-use Rattle.jam_app.specs.declared.commands.table.Command.TheVariants as command
+use Rattle.word_reader.specs.declared.table.Command.{Command}
+use Rattle.word_reader.specs.declared.table.Command.TheVariants as command
 use Rattle.jam_app.specs.AuditFiles.{HasAdvisories, HasLock}
-use Rattle.jam_app.specs.Entries.{Start}
-use Rattle.jam_app.specs.Requests.{Asked, start_of}
+use Rattle.jam_app.specs.Entries.{Start, start_of}
+use Rattle.word_reader.specs.Requests.{Asked}
 use Rattle.jam_app.proofs.FileLemmas.{advisories_apart, lock_apart, one_advisory, one_lock}
 use Rattle.jam_app.specs.Texts.{IsBad}
 use Rattle.jam_app.proofs.RoundLemmas.{one_round, round_within}

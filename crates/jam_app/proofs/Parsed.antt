@@ -1,15 +1,17 @@
 -- The modules of a round, before and after their requires are resolved.
-use Rattle.std.proofs.Common.{◌≡◌, Bool, List, [], ◌∷◌, map, refl, sym, ap, subst, ◌∙◌}
-use Rattle.std.specs.Prelude.{All}
+use Rattle.std.proofs.Common.{◌≡◌, Bool, List, [], ◌∷◌, map, refl, sym, ap, subst, ◌∙◌, Result, Ok, Err}
+use Rattle.std.specs.Prelude.{All, IfOk}
 use Rattle.std.proofs.lemmas.List.Elements.{All-cons, All-head, All-nil, All-tail, All-weaker}
 use Rattle.js_tree.specs.Spells.{SpellsSome}
 use Rattle.jam_base.specs.Files.{Files}
+use Rattle.jam_app.specs.declared.answers.stop.Stop.{Stop}
 use Rattle.jam_app.specs.declared.loading.loaded.Loaded.{Loaded}
 use Rattle.jam_app.specs.declared.loading.module.Parsed.{Parsed}
 use Rattle.jam_app.specs.declared.loading.source.Source.{Source}
 use Rattle.jam_app.specs.Loading.{IsKept}
 use Rattle.jam_app.specs.Reading.{IsParsed, IsResolved, parsed_of, source_of}
 use Rattle.jam_app.specs.Texts.{IsTheTree}
+use Rattle.jam_app.proofs.PrintLemmas.{map_map}
 use Rattle.jam_app.proofs.TreeLemmas.{spells_some}
 
 pub all_spell : (skip : Bool) (parsed : List Parsed) → All (IsParsed skip) parsed → All (λ p. SpellsSome p.tree) parsed
@@ -40,3 +42,9 @@ sources_same modules parsed e = by modules ∙ ap (map (λ (p : Parsed). p.sourc
     by : (ls : List Loaded) → map source_of ls ≡ map (λ (p : Parsed). p.source) (map parsed_of ls)
     by [] = refl
     by (l ∷ ls) = ap (λ ss. source_of l ∷ ss) (by ls)
+
+-- the paths of modules are those of their files
+pub ok_paths : {X : Type 0} (modules : X → List Loaded) (r : Result X Stop) (parsed : List Parsed) (sources : List Source) → map (λ (p : Parsed). p.source) parsed ≡ sources
+    → IfOk r (λ x. map (λ (l : Loaded). l.path) (modules x) ≡ map (λ (p : Parsed). p.source.path) parsed) → IfOk r (λ x. map (λ (l : Loaded). l.path) (modules x) ≡ map (λ (s : Source). s.path) sources)
+ok_paths modules (Err stop) parsed sources e paths = tt
+ok_paths modules (Ok x) parsed sources e paths = paths ∙ sym (map_map (λ (s : Source). s.path) (λ (p : Parsed). p.source) parsed) ∙ ap (map (λ (s : Source). s.path)) e

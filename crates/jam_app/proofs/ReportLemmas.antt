@@ -1,12 +1,15 @@
 -- The report that is made is the one that is owed.
-use Rattle.std.proofs.Common.{◌≡◌, ℕ, ◌+◌, List, [], ◌∷◌, map, length, Option, Some, None, refl, sym, ap, subst, ◌∙◌, sum_by}
-use Rattle.std.specs.Prelude.{All, slice_get}
+use Rattle.std.proofs.Common.{◌≡◌, ℕ, ◌+◌, ◌<◌, ◌≤◌, Bool, List, [], ◌∷◌, map, length, sum, arith, Option, Some, None, refl, sym, ap, subst, ◌∙◌, sum_by}
+use Rattle.std.specs.Prelude.{All, Contains, slice_get}
 use Rattle.std.specs.Option.{option_map}
 use Rattle.std.proofs.lemmas.List.{length-map}
-use Rattle.std.proofs.lemmas.List.Sums.{sum_by-cons}
-use Rattle.std.proofs.lemmas.Option.{slice_get-map}
+use Rattle.std.proofs.lemmas.List.Elements.{All-contains_itself, All-weaker}
+use Rattle.std.proofs.lemmas.List.Sums.{sum_by-cons, sum-map}
+use Rattle.std.proofs.lemmas.Option.{slice_get-map, slice_get_within}
 use Rattle.jam_base.specs.Files.{Files}
 use Rattle.jam_base.specs.declared.edge.Edge.{Edge}
+use Rattle.jam_base.specs.declared.edge.FunctionRef.{FunctionRef}
+use Rattle.js_scopes.specs.declared.function.FunctionInfo.{FunctionInfo}
 use Rattle.js_scopes.specs.Scopes.{functions_of}
 use Rattle.flow_rules.specs.Constraints.{ModuleConstraints}
 use Rattle.flow_rules.specs.Flows.{constraints_of}
@@ -14,13 +17,17 @@ use Rattle.jam_app.specs.Graphs.{constraints_all}
 use Rattle.composer.specs.Edges.{IsEdgeList}
 use Rattle.composer.specs.Graphs.{function_count}
 use Rattle.composer.specs.Parts.{lists_of}
+use Rattle.composer.specs.Sizes.{function_size, made_size, module_size, size_limit}
 use Rattle.composer.specs.declared.application.Link.{Link}
 use Rattle.composer.specs.declared.application.Part.{Part}
 use Rattle.lock_reader.specs.declared.lock.LockEntry.{LockEntry}
 use Rattle.advisory_reader.specs.declared.advisory.Advisory.{Advisory}
+use Rattle.alarms.specs.Alarms.{AreAlarms}
+use Rattle.alarms.specs.declared.found.Found.{Found}
 use Rattle.report_text.specs.declared.report.Counts.{Counts}
 use Rattle.report_text.specs.declared.report.Note.{Note}
 use Rattle.report_text.specs.declared.report.Report.{Report}
+use Rattle.jam_app.specs.declared.audit.showing.Sources.{Sources}
 use Rattle.jam_app.specs.declared.loading.loaded.Loaded.{Loaded}
 use Rattle.jam_app.specs.AuditFiles.{HasAdvisories, HasLock}
 use Rattle.jam_app.specs.Audits.{IsReport, function_total}
@@ -29,13 +36,37 @@ use Rattle.jam_app.specs.Links.{Adds, LinksBelow, StandsAt}
 use Rattle.jam_app.specs.Loading.{IsKept, IsWhole, module_of, part_of}
 use Rattle.jam_app.specs.Notes.{all_notes}
 use Rattle.jam_app.specs.Printing.{PrintedModule, printed_of}
-use Rattle.jam_app.specs.Requests.{Asked}
+use Rattle.word_reader.specs.Requests.{Asked}
 use Rattle.jam_app.specs.Rounds.{LoadedModule}
-use Rattle.jam_app.specs.Showing.{IsGraphReport, shown_by}
+use Rattle.jam_app.specs.Showing.{IsGraphReport, IsInLists, function_counts, shown_by}
 use Rattle.jam_app.proofs.AlarmLemmas.{alarms_are}
 use Rattle.jam_app.proofs.NoteLemmas.{notes_same}
 use Rattle.jam_app.proofs.Wide.{parts_lists}
 use Rattle.jam_app.proofs.WholeGraph.{constraints_same, graph_is}
+
+-- alarms that were found name items of their lists
+pub in_lists : (sources : Sources) (parts : List Part) (reached : FunctionRef → Bool) (found : List Found) → AreAlarms sources.lock.now.entries sources.advisories.now parts reached found → All (IsInLists sources) found
+in_lists sources parts reached found are =
+    All-weaker (Contains found) (IsInLists sources)
+    (λ x h. let a = (are.alarms_are x).0 h in record { advisory = slice_get_within sources.advisories.now x.advisory a.advisory a.advisory_at; entry = slice_get_within sources.lock.now.entries x.entry a.entry a.entry_at }) found (All-contains_itself found)
+
+-- functions are no more than the size of their parts
+functions_size : (fs : List FunctionInfo) → length fs ≤ sum_by function_size fs
+functions_size [] = omega arith
+functions_size (f ∷ fs) = omega (arith, functions_size fs, sum_by-cons function_size f fs)
+
+pub few_functions : (parts : List Part) → made_size parts < size_limit → sum (function_counts (lists_of parts)) < 4294967296
+few_functions parts narrow = omega (arith, narrow, sum-map count (lists_of parts), by parts)
+  where
+    count : ModuleConstraints → ℕ
+    count c = length c.functions
+
+    made : Part → ℕ
+    made p = module_size p.summary.made p.summary.lists
+
+    by : (ps : List Part) → sum_by count (lists_of ps) ≤ sum_by made ps
+    by [] = omega arith
+    by (p ∷ ps) = omega (arith, by ps, sum_by-cons count p.summary.lists (lists_of ps), sum_by-cons made p ps, functions_size p.summary.lists.functions)
 
 -- how many functions there are, by the parts and by the trees
 totals : (skip : Bool) (files : Files) (loaded : List Loaded) → All (IsKept skip files) loaded → function_count (lists_of (map part_of loaded)) ≡ function_total (map module_of loaded)

@@ -1,7 +1,7 @@
 -- The beginning of loading, and its end.
 use Rattle.std.proofs.Common.{◌≡◌, ℕ, ◌+◌, ◌<◌, ◌≤◌, List, [], ◌∷◌, ◌++◌, length, map, refl, ap, sym, subst, ◌∙◌, arith, ⊎_elim, length-append, true≢false, Bool, Option, Some}
 use Rattle.std.specs.Option.{is_some}
-use Rattle.std.specs.Prelude.{All, Contains}
+use Rattle.std.specs.Prelude.{All, Contains, IsSome}
 use Rattle.std.specs.BTreeMap as tree
 use Rattle.std.specs.BTreeMap.{BTreeMap, IsOrdered}
 use Rattle.std.specs.Cmp.Lexicographic.{slice_cmp, nat_list_cmp_total}
@@ -67,6 +67,10 @@ analysed_all modules held (e ∷ es) found =
     let more = analysed_all modules held es (All-tail P e es found) in
     ((λ i. here.0 i ∷ more.0 i), All-cons IsAnalysed e.1 (values_of es) here.1 more.1)
 
+length_values : (es : List (List ℕ × Loaded)) → length (values_of es) ≡ length es
+length_values [] = refl
+length_values (e ∷ es) = ap (λ n. 1 + n) (length_values es)
+
 module _ (modules : BTreeMap (List ℕ) Loaded) (listed : List Loaded) (held : HoldsAnalysed modules) (ordered : IsOrdered (slice_cmp nat_cmp) modules) (is : listed ≡ tree.values modules) where
   all : (map path_of (tree.values modules) ≡ tree.keys modules) × All IsAnalysed (tree.values modules)
   all = analysed_all modules held modules.entries (All-found nat_list_cmp_total modules ordered)
@@ -78,6 +82,14 @@ module _ (modules : BTreeMap (List ℕ) Loaded) (listed : List Loaded) (held : H
   -- and each has its tree and its constraints
   pub listed_analysed : All IsAnalysed listed
   listed_analysed = subst (All IsAnalysed) (sym is) all.1
+
+  -- what is found is listed
+  pub listed_has : (path : List ℕ) → IsSome (found_at modules path) → Contains (map path_of listed) path
+  listed_has path found =
+      subst (λ (ls : List Loaded). Contains (map path_of ls) path) (sym is) (subst (λ (ks : List (List ℕ)). Contains ks path) (sym all.0) ((btree_map_contains_key_iff nat_list_cmp_total exact_bytes modules path).0 found))
+
+  pub listed_long : length listed ≡ tree.btree_map_len modules
+  listed_long = ap length is ∙ length_values modules.entries
 
 -- nothing is held at first
 pub nothing_held : (modules : BTreeMap (List ℕ) Loaded) → modules.entries ≡ [] → HoldsAnalysed modules

@@ -27,7 +27,7 @@ use Rattle.jam_app.specs.Notes.{notes_owed}
 use Rattle.jam_app.specs.Rounds.{LoadedModule}
 use Rattle.std.specs.Prelude.{◌↔◌, Contains}
 use Rattle.std.specs.List.Sorted.{IsStrictlySortedBy}
-use Rattle.jam_app.specs.Requests.{Asked}
+use Rattle.word_reader.specs.Requests.{Asked}
 
 -- an alarm: the advisory speaks of the installed package (it has that package's name, and its range holds for the version), the
 -- package owns the module of the function, a selector of the advisory names the function, and this is the path to it, as `shown` prints it

@@ -4,6 +4,7 @@ use Rattle.jam_base.specs.Files.{Files}
 use Rattle.node_resolve.specs.declared.target.Target.{Target}
 use Rattle.node_resolve.specs.declared.target.Target.TheVariants as target
 use Rattle.node_resolve.specs.Targets.{entry_target}
+use Rattle.word_reader.specs.Requests.{Asked, entry_asked}
 
 -- the path of a target that is a module
 abbrev pub module_path : Target → Option (List ℕ)
@@ -23,3 +24,7 @@ pub record Start : Type 0 where
 
 abbrev pub begun : Option (List ℕ) → Bool → Start
 begun entry skip = record { entry = entry; skip = skip }
+
+-- what a request is to load
+abbrev pub start_of : Asked → Start
+start_of asked = begun (entry_asked asked.command asked.operand asked.entry) asked.skip_refused

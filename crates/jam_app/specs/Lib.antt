@@ -12,7 +12,6 @@ pub mod Outcomes
 pub mod Printing
 pub mod Reading
 pub mod Refusals
-pub mod Requests
 pub mod Rounds
 pub mod Showing
 pub mod Stops

@@ -3,12 +3,12 @@ use Rattle.std.specs.Prelude.{◌≡◌, ℕ, Bool, true, false, List, ◌⊎◌
 use Rattle.jam_base.specs.Causes.{Rose}
 use Rattle.jam_base.specs.Files.{Files}
 use Rattle.jam_app.specs.declared.audit.report.Output.{Output}
-use Rattle.jam_app.specs.declared.commands.table.Command.{Command}
-use Rattle.jam_app.specs.declared.commands.table.Command.TheVariants as command
+use Rattle.word_reader.specs.declared.table.Command.{Command}
+use Rattle.word_reader.specs.declared.table.Command.TheVariants as command
 use Rattle.jam_app.specs.Audits.{IsAuditText}
 use Rattle.jam_app.specs.Graphs.{IsGraphText}
 use Rattle.jam_app.specs.Refusals.{IsRefusal}
-use Rattle.jam_app.specs.Requests.{Asked}
+use Rattle.word_reader.specs.Requests.{Asked}
 use Rattle.jam_app.specs.Written.{TakesAll, TakesFront}
 use Rattle.jam_app.specs.declared.answers.refusal.Refusal.{Refusal}
 use Rattle.jam_app.specs.declared.answers.status.Status.{Status}

@@ -4,7 +4,7 @@ use Rattle.js_tree.specs.Lexing.{start_of}
 use Rattle.js_tree.specs.Spells.{limit}
 use Rattle.js_parser.specs.Reading.{IsStop}
 use Rattle.jam_base.specs.Files.{Files}
-use Rattle.jam_app.specs.Entries.{Start, entry_path}
+use Rattle.jam_app.specs.Entries.{Start, entry_path, start_of}
 use Rattle.jam_app.specs.Texts.{IsBad, is_ascii}
 use Rattle.jam_app.specs.Rounds.{bytes_at, total_bytes, module_limit, IsApplication, IsRound, Fits, LoadedModule, NoneBad}
 use Rattle.composer.specs.Sizes.{size_limit, size_of}
@@ -12,9 +12,9 @@ use Rattle.jam_app.specs.Graphs.{constraints_all}
 use Rattle.lock_reader.specs.declared.lock.LockEntry.{LockEntry}
 use Rattle.advisory_reader.specs.declared.advisory.Advisory.{Advisory}
 use Rattle.jam_app.specs.AuditFiles.{HasAdvisories, HasLock, IsAdvisoryRefusal, IsLockRefusal}
-use Rattle.jam_app.specs.Requests.{Asked, start_of}
-use Rattle.jam_app.specs.declared.commands.table.Command.{Command}
-use Rattle.jam_app.specs.declared.commands.table.Command.TheVariants as command
+use Rattle.word_reader.specs.Requests.{Asked}
+use Rattle.word_reader.specs.declared.table.Command.{Command}
+use Rattle.word_reader.specs.declared.table.Command.TheVariants as command
 use Rattle.jam_app.specs.declared.answers.refusal.Refusal.{Refusal}
 use Rattle.jam_app.specs.declared.answers.refusal.Refusal.TheVariants as refusal
 

@@ -21,7 +21,7 @@ use Rattle.advisory_reader.specs.declared.fault.AdvisoryFault.{AdvisoryFault}
 use Rattle.advisory_reader.specs.declared.fault.AdvisoryFault.TheVariants as advisory_fault
 use Rattle.jam_app.specs.declared.audit.report.Output.{Output}
 use Rattle.jam_app.specs.Outcomes.{IsOwedText, IsUnrefused}
-use Rattle.jam_app.specs.Requests.{Asked}
+use Rattle.word_reader.specs.Requests.{Asked}
 use Rattle.jam_app.specs.Refusals.{IsRefusedAt}
 
 -- a stop has its cause: the count rose, or the files give the refusal, which the line says

@@ -3,7 +3,7 @@ ghost use Rattle.std.specs.Prelude.{◌≡◌};
 ghost use Rattle.jam_base.specs.Files.{Files};
 ghost use Rattle.jam_app.specs.declared.answers.refusal.Refusal.{Refusal as AnyRefusal};
 ghost use Rattle.jam_app.specs.Refusals.{IsRefusal, without_place};
-ghost use Rattle.jam_app.specs.Requests.{Asked};
+ghost use Rattle.word_reader.specs.Requests.{Asked};
 
 /// A request over the same files has at most one refusal, but for the place at which the text of a module
 /// was left.

@@ -2,27 +2,25 @@
 ghost use Rattle.std.specs.Prelude.{◌≡◌, ◌≢◌, ◌≤◌, ◌↔◌, ℕ, List, true, IfOk, Some, None};
 ghost use Rattle.jam_base.specs.Causes.{Rose};
 ghost use Rattle.jam_app.specs.Lines.{IsTold, TellsStatus};
-ghost use Rattle.jam_app.specs.declared.commands.table.Command.TheVariants as command;
-ghost use Rattle.jam_app.specs.Requests.{canonical_request as asked_of};
+ghost use Rattle.word_reader.specs.declared.table.Command.TheVariants as command;
+ghost use Rattle.word_reader.specs.Requests.{canonical_request as asked_of};
 ghost use Rattle.jam_app.specs.Outcomes.{IsAudit, WhereTold, RefusesRightly, RefusesAlways, Completes, WritesOut, Writes, done_status};
 ghost use Rattle.jam_app.specs.Refusals.{IsRefusal};
 ghost use Rattle.jam_app.specs.Stops.{CountsFaults, Gives, IsOwed};
 ghost use Rattle.jam_app.specs.Written.{TakesAll, TakesFront};
 
-use crate::answers::help::help_text;
 use crate::answers::line::Line;
 use crate::answers::write::write_all;
 use crate::audit::report::Output;
 use crate::commands::audit::audit;
 use crate::commands::graph::graph;
-use crate::commands::request::{Request, request_of};
-use crate::commands::table::Command;
 use crate::{Status, Stop};
 use jam_base::{Folder, Gate, Keeper, Sink, Steps, Text};
 use std::alloc::Global;
 use std::marker::Sync;
 use std::sync::ledger::Ledger;
 use std::thread::Threads;
+use word_reader::{Command, Request, help_text, request_of};
 
 /// Does all that the program does, and answers how it ended.
 ///

@@ -11,5 +11,5 @@ mod read;
 
 pub use fault::LockFault;
 pub use lock::{Lock, LockEntry};
-pub use owner::within;
+pub use owner::{after_front, within};
 pub use read::read_lock;

@@ -12,7 +12,7 @@ use crate::lock::{Lock, LockEntry};
 use jam_base::ModulePath;
 
 /// What follows these characters at the front of a text.
-fn after_front<'t>(front: &str, text: &'t str) -> Option<&'t str>
+pub fn after_front<'t>(front: &str, text: &'t str) -> Option<&'t str>
     ensures { option_map (λ rest. rest.now) result ≡ after_front_of front.now text.now }
 {
     text.strip_prefix(front)

@@ -24,6 +24,7 @@ use std::alloc::Global;
 /// The call graph of the loaded modules, which go by their paths.
 pub(crate) fn printed_edges(alloc: Global, loaded: Vec<Loaded>) -> Result<Text, Stop>
     requires sorted { Ascend (map (λ l. l.path) loaded.items) }
+    requires few { length loaded.items ≤ 4294967295 }
     requires analysed { All IsAnalysed loaded.items }
     ensures text { IfOk result (λ text. (entry : Option (List ℕ)) (skip : Bool) (files : Files) (path : List ℕ) → IsWhole (begun entry skip) files path loaded.items → graphs.IsGraphText entry files text) }
     ensures narrow { IfOk result (λ text. loaded_size loaded.items < size_limit) }

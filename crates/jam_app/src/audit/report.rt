@@ -1,5 +1,5 @@
 //! The report of an application.
-ghost use Rattle.std.specs.Prelude.{◌≡◌, ◌<◌, List, All, IfErr, IfOk, OnOk, length, map};
+ghost use Rattle.std.specs.Prelude.{◌≡◌, ◌<◌, ◌≤◌, List, All, Contains, IfErr, IfOk, OnOk, length, map};
 ghost use Rattle.jam_base.specs.Files.{Files};
 ghost use Rattle.flow_rules.specs.Rules.{KeepsRules};
 ghost use Rattle.composer.specs.declared.application.Link.{Link as AnyLink};
@@ -12,7 +12,7 @@ ghost use Rattle.jam_app.specs.AuditFiles.{HasAdvisories, HasLock};
 ghost use Rattle.jam_app.specs.Audits.{IsReport, is_alarmed, written};
 ghost use Rattle.jam_app.specs.Entries.{begun};
 ghost use Rattle.jam_app.specs.Loading.{IsAnalysed, IsWhole, loaded_size};
-ghost use Rattle.jam_app.specs.Requests.{Asked};
+ghost use Rattle.word_reader.specs.Requests.{Asked};
 ghost use Rattle.jam_app.specs.Rounds.{Ascend};
 ghost use Rattle.jam_app.specs.Showing.{IsGraphReport, function_counts};
 ghost use Rattle.jam_app.specs.Stops.{StopsWide};
@@ -22,7 +22,7 @@ use crate::answers::edges::printed_modules;
 use crate::answers::printed::Printed;
 use crate::audit::notes::notes_of;
 use crate::audit::showing::{Sources, shown_alarms};
-use crate::loading::links::{links_of, place_of_path};
+use crate::loading::links::{links_of, place_of_loaded};
 use crate::loading::loaded::Application;
 use crate::loading::parts::{composed, parts_of};
 use advisory_reader::Advisory;
@@ -50,6 +50,8 @@ pub(crate) fn report_of(
 ) -> Result<Report, Stop>
     requires ascending { IsAscending lock.now.entries }
     requires sorted { Ascend (map (λ l. l.path) application.modules.items) }
+    requires few { length application.modules.items ≤ 4294967295 }
+    requires there { Contains (map (λ l. l.path) application.modules.items) application.entry }
     requires analysed { All IsAnalysed application.modules.items }
     ensures report { IfOk result (λ report. (asked : Asked) (files : Files) → HasLock files lock.now.entries → HasAdvisories files asked.operand advisories.now
         → IsWhole (begun asked.entry asked.skip_refused) files application.entry application.modules.items → IsReport asked files report) }
@@ -66,10 +68,7 @@ pub(crate) fn report_of(
         modules.as_slice(),
         printed.as_slice(),
     )?;
-    // The entry is among the modules.
-    let Some(entry) = place_of_path(modules.as_slice(), &entry) else {
-        return Err(Stop::OutOfMemory);
-    };
+    let entry = place_of_loaded(modules.as_slice(), &entry);
     let parts = parts_of(alloc, modules)?;
     let graph = composed(alloc, parts.as_slice(), links.as_slice())?;
     Ok(graph_report(

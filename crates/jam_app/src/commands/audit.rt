@@ -1,6 +1,6 @@
 //! The report of an application.
 ghost use Rattle.std.specs.Prelude.{◌≡◌};
-ghost use Rattle.jam_app.specs.declared.commands.table.Command.TheVariants as command;
+ghost use Rattle.word_reader.specs.declared.table.Command.TheVariants as command;
 ghost use Rattle.jam_app.specs.Refusals.{IsRefusal};
 ghost use Rattle.jam_app.specs.Stops.{CountsFaults, Gives, IsOwed};
 
@@ -8,11 +8,11 @@ use crate::Stop;
 use crate::audit::advisories::advisories_of;
 use crate::audit::lockfile::lock_of;
 use crate::audit::report::{Output, report_of, written_report};
-use crate::commands::request::Request;
 use crate::loading::rounds::load;
 use jam_base::{Folder, Steps};
 use std::alloc::Global;
 use std::sync::ledger::Ledger;
+use word_reader::Request;
 
 /// The report that `audit` owes: of the lockfile, the advisories and the application of the entry.
 pub(crate) fn audit<F: Folder, L: Ledger>(

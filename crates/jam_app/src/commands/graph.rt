@@ -1,17 +1,17 @@
 //! The call graph of an application, as text.
 ghost use Rattle.std.specs.Prelude.{◌≡◌};
-ghost use Rattle.jam_app.specs.declared.commands.table.Command.TheVariants as command;
+ghost use Rattle.word_reader.specs.declared.table.Command.TheVariants as command;
 ghost use Rattle.jam_app.specs.Refusals.{IsRefusal};
 ghost use Rattle.jam_app.specs.Stops.{CountsFaults, Gives, IsOwed};
 
 use crate::Stop;
 use crate::answers::edges::printed_edges;
 use crate::audit::report::Output;
-use crate::commands::request::Request;
 use crate::loading::rounds::load;
 use jam_base::{Folder, Steps};
 use std::alloc::Global;
 use std::sync::ledger::Ledger;
+use word_reader::Request;
 
 /// What `graph` owes: the call edges of the application of its operand.
 pub(crate) fn graph<F: Folder, L: Ledger>(

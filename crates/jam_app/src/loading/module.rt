@@ -112,6 +112,7 @@ fn parsed_round<L: Ledger>(
 // The module of a file with a tree.
 fn module_with<F: Folder>(alloc: Global, folder: &mut F, parsed: Parsed) -> Result<Loaded, Stop>
     requires { SpellsSome parsed.tree }
+    ensures path { IfOk result (λ l. l.path ≡ parsed.source.path) }
     ensures gives { Gives (λ m l. (parsed_of l ≡ parsed) × IsResolved m l)
         (λ m owed. ⊥) (F.files folder.old) (F.faults folder.old) (F.faults folder.new) result }
     ensures analysed { IfOk result IsAnalysed }
@@ -150,6 +151,7 @@ pub(crate) fn modules_of<F: Folder, L: Ledger>(
 ) -> Result<Vec<Loaded>, Stop>
     ensures gives { Gives (λ m modules. (map source_of modules.items ≡ sources.items) × All (IsKept skip m) modules.items)
         (λ m owed. HasBad skip sources.items owed) (F.files folder.old) (F.faults folder.old) (F.faults folder.new) result }
+    ensures paths { IfOk result (λ modules. map (λ l. l.path) modules.items ≡ map (λ s. s.path) sources.items) }
     ensures analysed { IfOk result (λ modules. All IsAnalysed modules.items) }
     ensures same { F.files folder.new ≡ F.files folder.old }
     ensures counts { CountsFaults (F.faults folder.old) (F.faults folder.new) result }
@@ -167,6 +169,7 @@ fn resolved_round<F: Folder>(
     requires { All (λ p. SpellsSome p.tree) round.items }
     ensures gives { Gives (λ m modules. (map parsed_of modules.items ≡ round.items) × All (IsResolved m) modules.items)
         (λ m owed. ⊥) (F.files folder.old) (F.faults folder.old) (F.faults folder.new) result }
+    ensures paths { IfOk result (λ modules. map (λ l. l.path) modules.items ≡ map (λ p. p.source.path) round.items) }
     ensures analysed { IfOk result (λ modules. All IsAnalysed modules.items) }
     ensures same { F.files folder.new ≡ F.files folder.old }
     ensures counts { CountsFaults (F.faults folder.old) (F.faults folder.new) result }

@@ -63,7 +63,8 @@ fn put(
     path: ModulePath,
     loaded: Loaded,
 ) -> Result<(), OutOfMemory>
-    ensures { OnOk result (tree.Updates (slice_cmp nat_cmp) kept.old kept.new path (Some loaded)) }
+    ensures updates { OnOk result (tree.Updates (slice_cmp nat_cmp) kept.old kept.new path (Some loaded)) }
+    ensures few { OnOk result (tree.btree_map_len kept.new ≤ tree.btree_map_len kept.old + 1) }
 {
     kept.insert(path, loaded)?;
     Ok(())
@@ -77,6 +78,7 @@ fn keep(
 ) -> Result<(), OutOfMemory>
     ensures here { OnOk result ((path : List ℕ) → IsSome (found_at kept.new path) ↔ (IsSome (found_at kept.old path) ⊎ Contains (map (λ l. l.path) modules.items) path)) }
     ensures which { OnOk result ((path : List ℕ) (l : AnyLoaded) → found_at kept.new path ≡ Some l → (found_at kept.old path ≡ Some l) ⊎ ((l.path ≡ path) × Contains modules.items l)) }
+    ensures few { OnOk result (tree.btree_map_len kept.new ≤ tree.btree_map_len kept.old + length modules.items) }
 {
     for module in modules {
         let path = module.path.copy(alloc)?;
@@ -116,12 +118,15 @@ fn load_round<F: Folder, L: Ledger>(
 ) -> Result<Vec<ModulePath>, Stop>
     requires modules { progress.old.size.modules ≤ module_limit }
     requires bytes { progress.old.size.bytes ≤ byte_limit }
+    requires few { tree.btree_map_len progress.old.modules ≤ progress.old.size.modules }
     requires held { HoldsAnalysed progress.old.modules }
     ensures held { OnOk result (HoldsAnalysed progress.new.modules) }
     ensures gives { Gives
         (λ m next. (entry : Option (List ℕ)) → Stands (begun entry skip) m progress.old round.items → Stands (begun entry skip) m progress.new next.items)
         (λ m owed. (entry : Option (List ℕ)) → Stands (begun entry skip) m progress.old round.items → IsLoadRefusal (begun entry skip) m owed)
         (F.files folder.old) (F.faults folder.old) (F.faults folder.new) result }
+    ensures there { OnOk result ((path : List ℕ) → IsSome (found_at progress.old.modules path) ⊎ Contains round.items path → IsSome (found_at progress.new.modules path)) }
+    ensures few { OnOk result (tree.btree_map_len progress.new.modules ≤ progress.new.size.modules) }
     ensures counted { OnOk result (progress.new.size.modules ≡ progress.old.size.modules + length round.items) }
     ensures modules { OnOk result (progress.new.size.modules ≤ module_limit) }
     ensures bytes { OnOk result (progress.new.size.bytes ≤ byte_limit) }
@@ -163,6 +168,8 @@ pub(crate) fn load<F: Folder, L: Ledger>(
         (F.files folder.old) (F.faults folder.old) (F.faults folder.new) result }
     ensures sorted { IfOk result (λ app. Ascend (map (λ l. l.path) app.modules.items)) }
     ensures analysed { IfOk result (λ app. All IsAnalysed app.modules.items) }
+    ensures entry { IfOk result (λ app. Contains (map (λ l. l.path) app.modules.items) app.entry) }
+    ensures few { IfOk result (λ app. length app.modules.items ≤ module_limit) }
     ensures same { F.files folder.new ≡ F.files folder.old }
     ensures counts { CountsFaults (F.faults folder.old) (F.faults folder.new) result }
 {

@@ -1,7 +1,7 @@
 //! The files of modules.
 ghost use Rattle.std.specs.FinMap as finite;
 ghost use Rattle.std.specs.Option.{option_map};
-ghost use Rattle.std.specs.Prelude.{◌≡◌, ◌≤◌, ◌+◌, ◌++◌, ◌∷◌, [], ℕ, Bool, List, length, map, OnOk, Some};
+ghost use Rattle.std.specs.Prelude.{◌≡◌, ◌≤◌, ◌+◌, ◌++◌, ◌∷◌, [], ℕ, Bool, List, length, map, IfOk, OnOk, Some};
 ghost use Rattle.jam_app.specs.Entries as entries;
 ghost use Rattle.jam_app.specs.Entries.{begun};
 ghost use Rattle.jam_app.specs.Reading.{HasExcess, IsExcess, file_at, file_of, size_of};
@@ -100,6 +100,7 @@ fn read_next<F: Folder>(
         (λ m source. (file_of source ≡ file_at m path) × ((earlier : List (List ℕ)) → size.old ≡ size_of m earlier → size.new ≡ size_of m (earlier ++ path ∷ [])))
         (λ m owed. (earlier : List (List ℕ)) → size.old ≡ size_of m earlier → IsExcess m earlier path owed)
         (F.files folder.old) (F.faults folder.old) (F.faults folder.new) result }
+    ensures path { IfOk result (λ source. source.path ≡ path) }
     ensures counted { OnOk result (size.new.modules ≡ size.old.modules + 1) }
     ensures modules { OnOk result (size.new.modules ≤ module_limit) }
     ensures bytes { OnOk result (size.new.bytes ≤ byte_limit) }
@@ -135,6 +136,7 @@ pub(crate) fn read_round<F: Folder>(
         (λ m sources. (map file_of sources.items ≡ map (file_at m) round.items) × ((earlier : List (List ℕ)) → size.old ≡ size_of m earlier → size.new ≡ size_of m (earlier ++ round.items)))
         (λ m owed. (earlier : List (List ℕ)) → size.old ≡ size_of m earlier → HasExcess m earlier round.items owed)
         (F.files folder.old) (F.faults folder.old) (F.faults folder.new) result }
+    ensures paths { IfOk result (λ sources. map (λ s. s.path) sources.items ≡ round.items) }
     ensures counted { OnOk result (size.new.modules ≡ size.old.modules + length round.items) }
     ensures modules { OnOk result (size.new.modules ≤ module_limit) }
     ensures bytes { OnOk result (size.new.bytes ≤ byte_limit) }

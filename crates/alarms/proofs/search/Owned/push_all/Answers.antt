@@ -1,27 +1,37 @@
-use Rattle.std.proofs.Common.{◌≡◌, ◌+◌, ◌≤◌, ℕ, length, Some, arith, refl, subst, sym}
-use Rattle.std.specs.Prelude.{slice_get}
+use Rattle.std.proofs.Common.{◌≡◌, ◌+◌, ◌≤◌, ℕ, List, length, Some, arith, refl, subst, sym, ap, ◌∙◌}
+use Rattle.std.specs.Prelude.{Contains, slice_get}
 use Rattle.std.specs.Option.{is_some}
 use Rattle.std.proofs.lemmas.Option.{slice_get_read}
-use Rattle.advisory_reader.specs.declared.advisory.Advisory.{Advisory}
 use Rattle.alarms.specs.declared.found.Found.{Found}
 use Rattle.reach_path.specs.Reached.{path_to}
-use Rattle.alarms.specs.Searching.{Adds, HitsBy}
-use Rattle.alarms.proofs.SearchLemmas.{Below, all_advisories, below_more}
+use Rattle.alarms.specs.Packages.{places_of}
+use Rattle.alarms.specs.Searching.{Adds, HitsAt}
+use Rattle.alarms.proofs.PackageLemmas.{place_within}
+use Rattle.alarms.proofs.SearchLemmas.{Below, all_places, below_more}
 use Rattle.alarms.proofs.search.Owned.push_all.Goals as goal
 
-pub loop-i-preserved : goal.loop-i-preserved
-loop-i-preserved c =
-    let P : ℕ → Advisory → Found → Type 0 = λ i advisory. HitsBy (λ f. is_some (path_to c.args.reach.now f)) i advisory c.args.self.now in
-    let advisories = c.args.advisories.now in
-    let advisory = c.index-advisories-i.result in
-    let here : slice_get advisories c.loop-i.i ≡ Some advisory = slice_get_read advisories (length advisories) c.loop-i.i advisory refl c.loop-i-test.true c.index-advisories-i.is in
-    below_more P advisories c.loop-i.i advisory c.args.found.now.items c.loop-i.found.items c.push_advisory.new.found.items here c.loop-i.invariant
-    (subst (λ (k : ℕ). Adds (P k advisory) c.loop-i.found.items c.push_advisory.new.found.items) c.in_ok-number.ensures c.in_ok-push_advisory.ensures)
+pub push_at-requires-there : goal.push_at-requires-there
+push_at-requires-there c =
+    let entry = c.args.self.now.entry.now in
+    let places = c.places.result.now in
+    let here : Contains places c.index-places-k.result = (c.loop-k.k, c.loop-k-test.true, sym c.index-places-k.is) in
+    let are : places ≡ places_of c.args.advisories.now entry.name = c.places.ensures ∙ ap (places_of c.args.advisories.now) c.as_str.ensures in
+    place_within entry.name c.args.advisories.now c.index-places-k.result (subst (λ (ps : List ℕ). Contains ps c.index-places-k.result) are here)
+
+pub loop-k-preserved : goal.loop-k-preserved
+loop-k-preserved c =
+    let P : ℕ → ℕ → Found → Type 0 = λ k place. HitsAt (λ f. is_some (path_to c.args.reach.now f)) c.args.advisories.now c.args.self.now place in
+    let places = c.places.result.now in
+    let place = c.index-places-k.result in
+    let here : slice_get places c.loop-k.k ≡ Some place = slice_get_read places (length places) c.loop-k.k place refl c.loop-k-test.true c.index-places-k.is in
+    below_more P places c.loop-k.k place c.args.found.now.items c.loop-k.found.items c.push_at.new.found.items here c.loop-k.invariant c.in_ok-push_at.ensures
 
 pub returns : goal.returns
 returns c =
-    let P : ℕ → Advisory → Found → Type 0 = λ i advisory. HitsBy (λ f. is_some (path_to c.args.reach.now f)) i advisory c.args.self.now in
-    let advisories = c.args.advisories.now in
-    let last : c.loop-i.i ≡ length advisories = omega (arith, c.loop-i-test.false, c.loop-i.auto.i-end) in
-    all_advisories (λ f. is_some (path_to c.args.reach.now f)) advisories c.args.self.now c.args.found.now.items c.loop-i.found.items
-    (subst (λ (k : ℕ). Adds (Below P advisories k) c.args.found.now.items c.loop-i.found.items) last c.loop-i.invariant)
+    let entry = c.args.self.now.entry.now in
+    let P : ℕ → ℕ → Found → Type 0 = λ k place. HitsAt (λ f. is_some (path_to c.args.reach.now f)) c.args.advisories.now c.args.self.now place in
+    let places = c.places.result.now in
+    let are : places ≡ places_of c.args.advisories.now entry.name = c.places.ensures ∙ ap (places_of c.args.advisories.now) c.as_str.ensures in
+    let last : c.loop-k.k ≡ length places = omega (arith, c.loop-k-test.false, c.loop-k.auto.k-end) in
+    all_places (λ f. is_some (path_to c.args.reach.now f)) c.args.advisories.now c.args.self.now places c.args.found.now.items c.loop-k.found.items are
+    (subst (λ (k : ℕ). Adds (Below P places k) c.args.found.now.items c.loop-k.found.items) last c.loop-k.invariant)

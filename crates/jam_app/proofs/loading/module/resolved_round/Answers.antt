@@ -4,6 +4,8 @@ use Rattle.std.specs.Option.{IfSome}
 use Rattle.std.proofs.lemmas.List.{append_assoc, map-append}
 use Rattle.std.proofs.lemmas.List.Elements.{All-push}
 use Rattle.js_tree.specs.Spells.{SpellsSome}
+use Rattle.jam_app.specs.declared.loading.loaded.Loaded.{Loaded}
+use Rattle.jam_app.specs.declared.loading.module.Parsed.{Parsed}
 use Rattle.jam_app.specs.Loading.{IsAnalysed}
 use Rattle.jam_app.specs.Reading.{IsResolved, parsed_of}
 use Rattle.jam_app.proofs.Bad.{all_at}
@@ -32,6 +34,8 @@ loop-parsed-preserved g c =
         ap (map parsed_of) c.in_ok-push.ensures.items ∙ map-append parsed_of c.loop-parsed.modules.items (module_ ∷ []) ∙ (λ i. r.0 i ++ s.0 i ∷ []),
         subst (All (IsResolved m)) (sym c.in_ok-push.ensures.items) (All-push (IsResolved m) c.loop-parsed.modules.items module_ r.1 s.1),
       ));
+      paths = ap (map (λ (l : Loaded). l.path)) c.in_ok-push.ensures.items ∙ map-append (λ (l : Loaded). l.path) c.loop-parsed.modules.items (module_ ∷ []) ∙ (λ i. inv.paths i ++ c.in_ok-module.ensures.path i ∷ [])
+          ∙ sym (map-append (λ (p : Parsed). p.source.path) c.loop-parsed.yielded (c.in-Some.parsed ∷ []));
       analysed = subst (All IsAnalysed) (sym c.in_ok-push.ensures.items) (All-push IsAnalysed c.loop-parsed.modules.items module_ inv.analysed c.in_ok-module.ensures.analysed);
       same = c.in_ok-module.ensures.same ∙ inv.same;
       quiet = c.in_ok-module.ensures.counts.done ∙ inv.quiet;
@@ -49,6 +53,12 @@ returns-clause-gives g c =
     let inv = c.loop-parsed.invariant in
     let all : c.args.round.items ≡ c.loop-parsed.yielded = inv.parts ∙ no_more c.loop-parsed.yielded c.loop-parsed.parsed-iterator.rest.items _ c.loop-parsed.parsed-iterator.rest.ok.0 c.in-None.ensures.steps.0 in
     told (g.F.Folder.files c.args.folder.now) inv.read (λ m r. (r.0 ∙ sym all, r.1))
+
+pub returns-clause-paths : goal.returns-clause-paths
+returns-clause-paths g c =
+    let inv = c.loop-parsed.invariant in
+    let all : c.args.round.items ≡ c.loop-parsed.yielded = inv.parts ∙ no_more c.loop-parsed.yielded c.loop-parsed.parsed-iterator.rest.items _ c.loop-parsed.parsed-iterator.rest.ok.0 c.in-None.ensures.steps.0 in
+    inv.paths ∙ ap (map (λ (p : Parsed). p.source.path)) (sym all)
 
 pub returns-in_err-module-clause-counts : goal.returns-in_err-module-clause-counts
 returns-in_err-module-clause-counts g c = counts_on _ _ _ c.in_err-module.field-0.0 c.from_residual.result c.from_residual.ensures.1 c.loop-parsed.invariant.quiet c.in_err-module.ensures.counts

@@ -1,13 +1,15 @@
 use Rattle.std.specs.Option.{option_map}
-use Rattle.std.proofs.Common.{◌≡◌, ◌<◌, [], ◌∷◌, ap, Bool, Option, ℕ, List, length, arith, refl, sym, subst, ◌∙◌}
+use Rattle.std.proofs.Common.{◌≡◌, ◌<◌, [], ◌∷◌, inl, inr, ap, Bool, Option, ℕ, List, length, arith, refl, sym, subst, ◌∙◌}
 use Rattle.std.specs.Option.{IfSome}
+use Rattle.std.specs.Prelude.{Contains}
+use Rattle.composer.proofs.Members.{here, none}
 use Rattle.jam_app.specs.declared.loading.rounds.Progress.{Progress}
 use Rattle.jam_app.specs.BetweenRounds.{Stands}
 use Rattle.jam_app.specs.Entries.{begun}
 use Rattle.jam_app.specs.Refusals.{IsLoadRefusal}
 use Rattle.jam_app.proofs.Ends.{is_nothing, not_empty}
 use Rattle.jam_app.proofs.Causes.{any_files, both_told, counts_on, handed_on, told}
-use Rattle.jam_app.proofs.Whole.{whole_from, listed_analysed, listed_ascend, nothing_held, stands_first}
+use Rattle.jam_app.proofs.Whole.{whole_from, listed_analysed, listed_ascend, listed_has, listed_long, nothing_held, stands_first}
 use Rattle.jam_app.proofs.loading.rounds.load.Goals as goal
 
 pub loop-alloc-init : goal.loop-alloc-init
@@ -18,6 +20,8 @@ loop-alloc-init g c =
       stands = told (g.F.Folder.files c.args.folder.now) c.in_ok-entry.ensures.gives (λ m found. subst (Stands start m progress) (sym (c.in_ok-round.ensures.items ∙ ap (λ p. p ∷ []) c.in_ok-copy.ensures))
           (stands_first m start c.in_ok-entry.entry progress found c.new.ensures.empty refl));
       held = nothing_held c.new.result c.new.ensures.empty;
+      few = omega (arith, ap length c.new.ensures.empty);
+      there = inr (subst (λ (ps : List (List ℕ)). Contains ps c.in_ok-entry.entry) (sym (c.in_ok-round.ensures.items ∙ ap (λ p. p ∷ []) c.in_ok-copy.ensures)) (here c.in_ok-entry.entry []));
       modules = omega arith;
       bytes = omega arith;
       same = c.in_ok-entry.ensures.same;
@@ -36,6 +40,8 @@ loop-alloc-preserved g c =
     record {
       stands = both_told files inv.stands step (λ m stands next. next entry stands);
       held = c.in_ok-round-2.ensures.held;
+      few = c.in_ok-round-2.ensures.few;
+      there = inl (c.in_ok-round-2.ensures.there c.in_ok-entry.entry inv.there);
       modules = c.in_ok-round-2.ensures.modules;
       bytes = c.in_ok-round-2.ensures.bytes;
       same = c.in_ok-round-2.ensures.same ∙ inv.same;
@@ -67,6 +73,17 @@ returns-clause-sorted g c = listed_ascend c.loop-alloc.progress.modules c.in_ok-
 
 pub returns-clause-analysed : goal.returns-clause-analysed
 returns-clause-analysed g c = listed_analysed c.loop-alloc.progress.modules c.in_ok-modules.modules.items c.loop-alloc.invariant.held c.in_ok-modules.ensures.ordered c.in_ok-modules.ensures.listed
+
+pub returns-clause-entry : goal.returns-clause-entry
+returns-clause-entry g c =
+    let no_round : c.loop-alloc.round.items ≡ [] = is_nothing c.loop-alloc.round.items _ c.is_empty.result c.loop-alloc.round.ok.0 c.is_empty.ensures c.loop-alloc-test.false in
+    listed_has c.loop-alloc.progress.modules c.in_ok-modules.modules.items c.loop-alloc.invariant.held c.in_ok-modules.ensures.ordered c.in_ok-modules.ensures.listed c.in_ok-entry.entry
+    (elim c.loop-alloc.invariant.there [ inl found ↦ found | inr in_round ↦ absurd (none c.in_ok-entry.entry (subst (λ (ps : List (List ℕ)). Contains ps c.in_ok-entry.entry) no_round in_round)) ])
+
+pub returns-clause-few : goal.returns-clause-few
+returns-clause-few g c =
+    let long = listed_long c.loop-alloc.progress.modules c.in_ok-modules.modules.items c.loop-alloc.invariant.held c.in_ok-modules.ensures.ordered c.in_ok-modules.ensures.listed in
+    omega (arith, long, c.loop-alloc.invariant.few, c.loop-alloc.invariant.modules)
 
 pub returns-in_err-round-2-clause-counts : goal.returns-in_err-round-2-clause-counts
 returns-in_err-round-2-clause-counts g c = counts_on _ _ _ c.in_err-round-2.field-0.0 c.from_residual-in_err-round-2.result c.from_residual-in_err-round-2.ensures.1 c.loop-alloc.invariant.quiet c.in_err-round-2.ensures.counts

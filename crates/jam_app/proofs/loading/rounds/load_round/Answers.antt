@@ -1,8 +1,10 @@
-use Rattle.std.proofs.Common.{◌≡◌, ℕ, inl, inr, List, map, arith, ap, subst, ◌∙◌}
-use Rattle.std.specs.Prelude.{All}
+use Rattle.std.proofs.Common.{◌≡◌, ℕ, inl, inr, List, length, map, arith, ap, subst, sym, ◌∙◌}
+use Rattle.std.specs.Prelude.{All, Contains}
 use Rattle.std.specs.List.{flat_map}
 use Rattle.std.specs.Option.{IfSome}
+use Rattle.std.proofs.lemmas.List.{length-map}
 use Rattle.std.proofs.lemmas.List.Elements.{All-contains}
+use Rattle.jam_app.specs.declared.loading.loaded.Loaded.{Loaded}
 use Rattle.jam_app.specs.Entries.{begun}
 use Rattle.jam_app.specs.Loading.{IsAnalysed, IsKept}
 use Rattle.jam_app.specs.Reading.{HasBad, HasExcess, led_from, size_of, source_of}
@@ -44,3 +46,14 @@ returns-clause-held g c path l is = elim (c.in_ok-keep.ensures.which path l is) 
 
 pub returns-in_err-modules-clause-counts : goal.returns-in_err-modules-clause-counts
 returns-in_err-modules-clause-counts g c = counts_on _ _ _ c.in_err-modules.field-0.0 c.from_residual-in_err-modules.result c.from_residual-in_err-modules.ensures.1 c.in_ok-sources.ensures.counts.done c.in_err-modules.ensures.counts
+
+pub returns-clause-there : goal.returns-clause-there
+returns-clause-there g c path where_ =
+    let paths = c.in_ok-modules.ensures.paths ∙ c.in_ok-sources.ensures.paths in
+    (c.in_ok-keep.ensures.here path).1 (elim where_ [ inl old ↦ inl old | inr new ↦ inr (subst (λ (ps : List (List ℕ)). Contains ps path) (sym paths) new) ])
+
+pub returns-clause-few : goal.returns-clause-few
+returns-clause-few g c =
+    let paths = c.in_ok-modules.ensures.paths ∙ c.in_ok-sources.ensures.paths in
+    let long : length c.in_ok-modules.modules.items ≡ length c.args.round.items = sym (length-map c.in_ok-modules.modules.items (λ (l : Loaded). l.path)) ∙ ap length paths in
+    omega (arith, c.requires.few, c.in_ok-keep.ensures.few, c.in_ok-sources.ensures.counted, long)

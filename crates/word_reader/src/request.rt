@@ -1,10 +1,10 @@
 //! What the words of the command line ask for.
 ghost use Rattle.std.specs.Prelude.{◌≡◌};
 ghost use Rattle.std.specs.Option.{option_map};
-ghost use Rattle.jam_app.specs.Requests as requests;
+ghost use Rattle.word_reader.specs.Requests as requests;
 
-use crate::commands::given::{Given, said_first};
-use crate::commands::table::Command;
+use crate::given::{Given, said_first};
+use crate::table::Command;
 use jam_base::Text;
 use std::marker::Model;
 
@@ -20,7 +20,7 @@ pub struct Request<'w> {
 
 impl<'w> Model for Request<'w> {
     ghost use Rattle.std.specs.Option.{option_map};
-    ghost use Rattle.jam_app.specs.Requests.{Asked};
+    ghost use Rattle.word_reader.specs.Requests.{Asked};
 
     ghost Value = { Asked };
 
@@ -50,7 +50,7 @@ impl<'w> Request<'w> {
 
     /// The entry that the command begins with, where one is given: the operand of `graph`.
     pub fn start(&self) -> Option<&'w str>
-        ensures { option_map (λ t. t.now) result ≡ (requests.start_of self.now).entry }
+        ensures { option_map (λ t. t.now) result ≡ requests.entry_asked self.now.command self.now.operand self.now.entry }
     {
         match self.command {
             Command::Audit => self.entry,

@@ -1,11 +1,11 @@
 //! The help text: `clap`'s, made of the table of commands and options.
-use crate::commands::table::{Choice, Command};
+use crate::table::{Choice, Command};
 use clap::{Arg, ArgAction, Command as Builder};
 use jam_base::{OutOfMemory, Text};
 use std::alloc::{AllocError, Global};
 
 /// A line for each command, and then for each command how it is called, its options and an example.
-pub(crate) fn help_text(alloc: Global) -> Result<Text, OutOfMemory> {
+pub fn help_text(alloc: Global) -> Result<Text, OutOfMemory> {
     let mut out = String::new(alloc);
     push_commands(alloc, &mut out)?;
     for command in [Command::Audit, Command::Graph] {
@@ -17,7 +17,9 @@ pub(crate) fn help_text(alloc: Global) -> Result<Text, OutOfMemory> {
 // The commands, each on a line.
 fn push_commands(alloc: Global, out: &mut String) -> Result<(), AllocError> {
     let mut program = Builder::new(alloc, "jam")
-        .about("Which functions that advisories name an application can call")
+        .about(
+            "Tells which functions that advisories name an application can call. Run it in the application folder.",
+        )
         .disable_help_flag(true)
         .disable_help_subcommand(true)
         .subcommand_required(true);
@@ -30,9 +32,11 @@ fn push_commands(alloc: Global, out: &mut String) -> Result<(), AllocError> {
 
 // A command, with its options.
 fn push_command(alloc: Global, out: &mut String, command: Command) -> Result<(), AllocError> {
-    let operand = Arg::new(alloc, command.operand()).required(true);
+    let operand = Arg::new(alloc, command.operand())
+        .help(command.about_operand())
+        .required(true);
     let mut program = Builder::new(alloc, command.word())
-        .bin_name("jam")?
+        .bin_name(command.call())?
         .about(command.about())
         .after_help(command.example())
         .disable_help_flag(true)

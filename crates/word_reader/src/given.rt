@@ -1,10 +1,10 @@
 //! What the words of a command line say, one after another.
 ghost use Rattle.std.specs.Prelude.{◌≡◌};
 ghost use Rattle.std.specs.Option.{option_map};
-ghost use Rattle.lock_reader.specs.Texts.{after_front as after_front_of};
-ghost use Rattle.jam_app.specs.Requests as requests;
+ghost use Rattle.word_reader.specs.Requests as requests;
 
-use crate::commands::table::{Choice, Command};
+use crate::table::{Choice, Command};
+use lock_reader::after_front;
 use std::marker::Model;
 
 /// What the words up to here say.
@@ -20,7 +20,7 @@ pub(crate) struct Given<'w> {
 
 impl<'w> Model for Given<'w> {
     ghost use Rattle.std.specs.Option.{option_map};
-    ghost use Rattle.jam_app.specs.Requests.{Said};
+    ghost use Rattle.word_reader.specs.Requests.{Said};
 
     ghost Value = { Said };
 
@@ -84,13 +84,6 @@ fn choice_of(word: &str) -> Option<Choice>
     } else {
         None
     }
-}
-
-// What follows these characters at the front of a text.
-fn after_front<'t>(front: &str, text: &'t str) -> Option<&'t str>
-    ensures { option_map (λ rest. rest.now) result ≡ after_front_of front.now text.now }
-{
-    text.strip_prefix(front)
 }
 
 // The value of an option that stands behind `=` in its word.

@@ -1,6 +1,6 @@
 //! The commands and their options: what words are read by, and what the help text is made of.
 ghost use Rattle.std.specs.Prelude.{◌≡◌};
-ghost use Rattle.jam_app.specs.Requests as requests;
+ghost use Rattle.word_reader.specs.Requests as requests;
 
 /// A command of the program.
 #[derive(Clone, Copy, Debug, PartialEq, Eq, Drop)]
@@ -43,11 +43,28 @@ impl Command {
         }
     }
 
+    /// The program's name and its word.
+    pub(crate) fn call(self) -> &'static str {
+        match self {
+            Command::Audit => "jam audit",
+            Command::Graph => "jam graph",
+        }
+    }
+
     /// The name of its operand.
     pub(crate) fn operand(self) -> &'static str {
         match self {
             Command::Audit => "ADVISORIES",
             Command::Graph => "FILE",
+        }
+    }
+
+    /// What its operand is.
+    pub(crate) fn about_operand(self) -> &'static str {
+        match self {
+            Command::Audit => "The file of advisories, by its path from the application folder",
+            Command::Graph =>
+                "The file that the application begins with, as `require` would find it",
         }
     }
 

@@ -3,11 +3,10 @@ use Rattle.std.specs.Prelude.{ℕ, Bool, true, false, not, is_some, List, [], �
 use Rattle.std.specs.Option.{option_and_then, option_map}
 use Rattle.std.specs.Str.{bytes_eq}
 use Rattle.lock_reader.specs.Texts.{after_front}
-use Rattle.jam_app.specs.declared.commands.table.Command.{Command}
-use Rattle.jam_app.specs.declared.commands.table.Command.TheVariants as command
-use Rattle.jam_app.specs.declared.commands.table.Choice.{Choice}
-use Rattle.jam_app.specs.declared.commands.table.Choice.TheVariants as choice
-use Rattle.jam_app.specs.Entries.{Start, begun}
+use Rattle.word_reader.specs.declared.table.Command.{Command}
+use Rattle.word_reader.specs.declared.table.Command.TheVariants as command
+use Rattle.word_reader.specs.declared.table.Choice.{Choice}
+use Rattle.word_reader.specs.declared.table.Choice.TheVariants as choice
 
 -- what canonical words ask for
 pub record Asked : Type 0 where
@@ -161,7 +160,3 @@ canonical_request (word ∷ words) = option_and_then asked_by (option_and_then (
 abbrev pub entry_asked : Command → List ℕ → Option (List ℕ) → Option (List ℕ)
 entry_asked command.Audit operand entry = entry
 entry_asked command.Graph operand entry = Some operand
-
--- what is to be loaded
-abbrev pub start_of : Asked → Start
-start_of asked = begun (entry_asked asked.command asked.operand asked.entry) asked.skip_refused
