@@ -18,7 +18,7 @@ use Rattle.jam_app.specs.declared.answers.refusal.Refusal.{Refusal}
 use Rattle.jam_app.specs.declared.answers.refusal.Refusal.TheVariants as refusal
 use Rattle.jam_app.specs.declared.answers.stop.Stop.{Stop}
 use Rattle.jam_app.specs.declared.answers.stop.Stop.TheVariants.{OutOfMemory}
-use Rattle.jam_app.specs.AuditFiles.{HasAdvisories, HasLock, IsAdvisoryRefusal, IsLockRefusal, advisory, file_named, lock, lock_file, no_advisories, no_lock}
+use Rattle.jam_app.specs.AuditFiles.{HasAdvisories, HasLock, IsAdvisoryRefusal, IsLockRefusal, advisory, file_named, lock, lock_file, no_advisories, no_lock, package_lock, shrinkwrap}
 use Rattle.jam_app.specs.Stops.{Gives, HasStopCause, StopsForAdvisories, StopsForBytes, StopsForLock, StopsForText}
 use Rattle.jam_app.proofs.Causes.{refused_stop, told}
 
@@ -97,3 +97,10 @@ pub advisories_given : (name bytes : List ℕ) (files : Option Files) (before no
     → IfErr result (StopsForText bytes) → Gives (λ m list. HasAdvisories m name list) (λ m owed. IsAdvisoryRefusal m name owed) files before now result
 advisories_given name bytes files before now (Ok list) file read stops = told files file (λ m e. record { bytes = bytes; file = e; spelled = read })
 advisories_given name bytes files before now (Err stop) file read stops = advisory_cause name bytes files before now stop file stops
+
+-- which file is to be the lockfile
+pub shrinkwrap_there : (m : Files) (bytes : List ℕ) → file_named m shrinkwrap ≡ Some bytes → lock_file m ≡ Some (shrinkwrap, bytes)
+shrinkwrap_there m bytes e = ap (λ (o : Option (List ℕ)). elim o [ None ↦ package_lock m | Some b ↦ Some (shrinkwrap, b) ]) e
+
+pub shrinkwrap_absent : (m : Files) → file_named m shrinkwrap ≡ None → lock_file m ≡ package_lock m
+shrinkwrap_absent m e = ap (λ (o : Option (List ℕ)). elim o [ None ↦ package_lock m | Some b ↦ Some (shrinkwrap, b) ]) e

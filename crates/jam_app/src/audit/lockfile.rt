@@ -34,10 +34,18 @@ fn package_lock<F: Folder>(alloc: Global, folder: &mut F) -> Result<Option<LockF
     ensures counts { CountsFaults (F.faults folder.old) (F.faults folder.new) result }
 {
     let found = file_named(alloc, folder, PACKAGE_LOCK)?;
-    Ok(found.map(|bytes| LockFile {
-        name: PACKAGE_LOCK,
-        bytes,
-    }))
+    Ok(named(PACKAGE_LOCK, found))
+}
+
+// The file of this name, if it is there.
+fn named(name: &'static str, found: Option<Vec<u8>>) -> Option<LockFile>
+    ensures name { IfSome result (λ file. file.name.now ≡ name.now) }
+    ensures pair { option_map audit_files.lock_pair result ≡ audit_files.named name.now (option_map (λ v. v.items) found) }
+{
+    match found {
+        Some(bytes) => Some(LockFile { name, bytes }),
+        None => None,
+    }
 }
 
 // The file that is to be the lockfile, if there is one: `npm-shrinkwrap.json`, else `package-lock.json`.

@@ -89,21 +89,39 @@ pub(crate) fn noted_of(alloc: Global, owned: bool, one: &Loaded) -> Result<Vec<N
     ensures { IfOk result (λ made. made.items ≡ ascending_of notes.noted_order (notes.all_noted owned one.now)) }
 {
     let mut made = Vec::new(alloc);
-    if !owned {
-        made.push(Noted {
-            offset: 0,
-            remark: Remark::NotInLockfile,
-        })?;
-    }
+    push_unowned(&mut made, owned)?;
     push_own(&mut made, one.summary.notes())?;
     push_missing(alloc, &mut made, one.missing.as_slice())?;
-    if one.skipped {
-        made.push(Noted {
-            offset: 0,
-            remark: skipped_for(one.bytes.len()),
-        })?;
-    }
+    push_skipped(&mut made, one.skipped, one.bytes.len())?;
     ascending(alloc, made)
+}
+
+// Adds that no installed package owns the module, unless one does.
+fn push_unowned(made: &mut Vec<Noted>, owned: bool) -> Result<(), OutOfMemory>
+    ensures { OnOk result (made.new.items ≡ made.old.items ++ notes.lock_noted owned) }
+{
+    if owned {
+        return Ok(());
+    }
+    made.push(Noted {
+        offset: 0,
+        remark: Remark::NotInLockfile,
+    })?;
+    Ok(())
+}
+
+// Adds that a module is skipped whose file has so many bytes, if it is.
+fn push_skipped(made: &mut Vec<Noted>, skipped: bool, length: usize) -> Result<(), OutOfMemory>
+    ensures { OnOk result (made.new.items ≡ made.old.items ++ notes.skip_noted skipped length) }
+{
+    if !skipped {
+        return Ok(());
+    }
+    made.push(Noted {
+        offset: 0,
+        remark: skipped_for(length),
+    })?;
+    Ok(())
 }
 
 // Why a module is skipped whose file has so many bytes.

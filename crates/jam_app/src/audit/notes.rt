@@ -86,17 +86,24 @@ fn push_noted(
         → OnOk result (notes.new.items ≡ notes.old.items ++ map (specs_of.note_at path.now text) noted.now) }
 {
     for i in 0..noted.len() {
-        let place = LineColumn {
-            line: places[i].line,
-            column: places[i].column,
-        };
-        notes.push(Note {
-            path: Text::of(alloc, path)?,
-            place: Some(place),
-            text: noted[i].remark.text(alloc)?,
-        })?;
+        notes.push(note_of(alloc, path, &noted[i], &places[i])?)?;
     }
     Ok(())
+}
+
+// The note of what is noted at a place of a module.
+fn note_of(alloc: Global, path: &str, noted: &Noted, place: &Place) -> Result<Note, OutOfMemory>
+    ensures { (text : List ℕ) → spot_of place.now ≡ spot_at text noted.now.offset → IfOk result (λ note. note ≡ specs_of.note_at path.now text noted.now) }
+{
+    let place = LineColumn {
+        line: place.line,
+        column: place.column,
+    };
+    Ok(Note {
+        path: Text::of(alloc, path)?,
+        place: Some(place),
+        text: noted.remark.text(alloc)?,
+    })
 }
 
 // Adds the notes of installed packages without a version.

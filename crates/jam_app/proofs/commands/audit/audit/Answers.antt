@@ -3,6 +3,8 @@ use Rattle.std.specs.Option.{IfSome, option_map}
 use Rattle.jam_base.specs.Files.{Files}
 use Rattle.word_reader.specs.declared.table.Command.{Command}
 use Rattle.word_reader.specs.Requests.{entry_asked}
+use Rattle.advisory_reader.specs.declared.advisory.Advisory.{Advisory}
+use Rattle.jam_app.specs.Audits.{written}
 use Rattle.jam_app.specs.AuditFiles.{HasAdvisories, HasLock, IsAdvisoryRefusal, IsLockRefusal}
 use Rattle.jam_app.specs.Entries.{Start, begun, start_of}
 use Rattle.jam_app.specs.Loading.{IsWhole, loaded_size}
@@ -88,5 +90,6 @@ returns-clause-gives g c =
     told files (three_told files _ _ c.in_ok-lock.ensures.same c.in_ok-advisories.ensures.same c.in_ok-lock.ensures.gives c.in_ok-advisories.ensures.gives c.in_ok-application.ensures.gives) (λ m r.
     let whole : IsWhole (start_of asked) m app.entry app.modules.items = subst (λ (s : Start). IsWhole s m app.entry app.modules.items) start r.2 in
     let has : HasAdvisories m asked.operand advised = subst (λ (n : List ℕ). HasAdvisories m n advised) c.operand.ensures r.1 in
-    let made = c.in_ok-report.ensures.report asked m r.0 (subst (λ (as : _). HasAdvisories m asked.operand as) (sym c.as_slice.ensures) has) (subst (λ (s : Start). IsWhole s m app.entry app.modules.items) plain whole) in
-    audit_owed asked m app.entry app.modules.items entries advised report c.in_ok-written_report.field-0 c.requires r.0 has whole c.in_ok-report.ensures.narrow made ? ?)
+    let made = c.in_ok-report.ensures.report asked m r.0 (subst (λ (list : List Advisory). HasAdvisories m asked.operand list) (sym c.as_slice.ensures) has) (subst (λ (s : Start). IsWhole s m app.entry app.modules.items) plain whole) in
+    audit_owed asked m app.entry app.modules.items entries advised report c.in_ok-written_report.field-0 c.requires r.0 has whole c.in_ok-report.ensures.narrow made
+    (c.in_ok-written_report.ensures.text ∙ ap (λ (json : Bool). written json report) c.is_json.ensures) c.in_ok-written_report.ensures.alarmed)
