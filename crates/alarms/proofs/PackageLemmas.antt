@@ -38,7 +38,7 @@ module _ (n : ℕ) (name : List ℕ) (a : Advisory) (more : List Advisory) (plac
 
 pub is_there : (n : ℕ) (name : List ℕ) (advisories : List Advisory) (place : ℕ) → Contains (places_from n name advisories) place → IsThere n name advisories place
 is_there n name [] place h = absurd (none place h)
-is_there n name (a ∷ as) place h = here_or_later n name a as place (bytes_eq name a.package) h (is_there (n + 1) name as place)
+is_there n name (a ∷ more) place h = here_or_later n name a more place (bytes_eq name a.package) h (is_there (n + 1) name more place)
 
 -- so they are within the list
 pub place_within : (name : List ℕ) (advisories : List Advisory) (place : ℕ) → Contains (places_of advisories name) place → place < length advisories
@@ -49,13 +49,13 @@ place_within name advisories place h =
 -- each advisory on the package has its place among them
 pub has_place : (n : ℕ) (name : List ℕ) (advisories : List Advisory) (k : ℕ) (a : Advisory) → slice_get advisories k ≡ Some a → bytes_eq name a.package ≡ true → Contains (places_from n name advisories) (n + k)
 has_place n name [] k a here named = absurd (none-some a here)
-has_place n name (b ∷ as) zero a here named =
+has_place n name (b ∷ more) zero a here named =
     let same : b ≡ a = same_Some b a here in
     let test : true ≡ bytes_eq name b.package = sym (ap (λ (x : Advisory). bytes_eq name x.package) same ∙ named) in
-    subst (λ t. Contains ((if t then n ∷ [] else []) ++ places_from (n + 1) name as) (n + zero)) test (0, omega arith, omega arith)
-has_place n name (b ∷ as) (suc k) a here named =
+    subst (λ t. Contains ((if t then n ∷ [] else []) ++ places_from (n + 1) name more) (n + zero)) test (0, omega arith, omega arith)
+has_place n name (b ∷ more) (suc k) a here named =
     let e : n + 1 + k ≡ n + suc k = omega arith in
-    subst (Contains (places_from n name (b ∷ as))) e (Contains-append_right (place_if name b.package n) (places_from (n + 1) name as) (n + 1 + k) (has_place (n + 1) name as k a here named))
+    subst (Contains (places_from n name (b ∷ more))) e (Contains-append_right (place_if name b.package n) (places_from (n + 1) name more) (n + 1 + k) (has_place (n + 1) name more k a here named))
 
 -- ---- what is kept
 
@@ -79,7 +79,7 @@ kept_more advisories a i kept new name lt is was new_is =
     let front : List ℕ = place_if name a.package i in
     let parts : drop i advisories ≡ a ∷ drop (i + 1) advisories = drop_more advisories i a lt ∙ ap (λ x. x ∷ drop (i + 1) advisories) (sym is) in
     ap (λ xs. xs ++ places_from (i + 1) name (drop (i + 1) advisories)) new_is ∙ append_assoc kept front (places_from (i + 1) name (drop (i + 1) advisories))
-    ∙ ap (λ as. kept ++ places_from i name as) (sym parts) ∙ was
+    ∙ ap (λ rest. kept ++ places_from i name rest) (sym parts) ∙ was
 
 -- there is a place exactly where an advisory is on the package
 any_more : (n : ℕ) (any b : Bool) (places : List ℕ) → any ≡ not (length places == 0) → (b || any) ≡ not (length ((if b then n ∷ [] else []) ++ places) == 0)
@@ -88,4 +88,4 @@ any_more n any false places is = is
 
 pub any_place : (n : ℕ) (name : List ℕ) (advisories : List Advisory) → list_any (λ a. bytes_eq name a.package) advisories ≡ not (length (places_from n name advisories) == 0)
 any_place n name [] = refl
-any_place n name (a ∷ as) = any_more n (list_any (λ (x : Advisory). bytes_eq name x.package) as) (bytes_eq name a.package) (places_from (n + 1) name as) (any_place (n + 1) name as)
+any_place n name (a ∷ more) = any_more n (list_any (λ (x : Advisory). bytes_eq name x.package) more) (bytes_eq name a.package) (places_from (n + 1) name more) (any_place (n + 1) name more)

@@ -14,7 +14,7 @@ place_if name «package» place = if bytes_eq name «package» then place ∷ []
 -- the places, counted from n, of the advisories on that package
 abbrev pub places_from : ℕ → List ℕ → List Advisory → List ℕ
 places_from n name [] = []
-places_from n name (a ∷ as) = place_if name a.package n ++ places_from (n + 1) name as
+places_from n name (a ∷ more) = place_if name a.package n ++ places_from (n + 1) name more
 
 abbrev pub places_of : List Advisory → List ℕ → List ℕ
 places_of advisories name = places_from 0 name advisories

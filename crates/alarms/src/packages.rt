@@ -32,7 +32,10 @@ impl<'a> Model for ByPackage<'a> {
 
 impl<'a> ByPackage<'a> {
     /// These advisories.
-    pub(crate) fn of(alloc: Global, advisories: &'a [Advisory]) -> Result<ByPackage<'a>, OutOfMemory>
+    pub(crate) fn of(
+        alloc: Global,
+        advisories: &'a [Advisory],
+    ) -> Result<ByPackage<'a>, OutOfMemory>
         ensures { IfOk result (λ made. made ≡ advisories.now) }
     {
         let mut places = BTreeMap::new(alloc);

@@ -95,7 +95,13 @@ fn finds(rt: &impl Abort, alloc: Global, text: &str, expected: &[Found]) -> Resu
         call(1, 2, 30, 3, 1),
     ];
     let reach = reach_of(alloc, &[1, 4, 2, 2], &edges, 0)?;
-    let made = alarms(alloc, &lock, advisories.as_slice(), parts.as_slice(), &reach)?;
+    let made = alarms(
+        alloc,
+        &lock,
+        advisories.as_slice(),
+        parts.as_slice(),
+        &reach,
+    )?;
     assert_eq!(rt; made.as_slice(), expected);
     Ok(())
 }
@@ -121,7 +127,9 @@ fn an_alarm_needs_a_name_a_range_a_selector_and_a_walk(rt: HostRuntime) -> Resul
             [found(0, 1, 1, 1), found(0, 1, 1, 2)].as_slice(),
         ),
     ] {
-        let text = format!(in alloc; "{{\"advisories\":[{{\"id\":\"X\",\"package\":\"a\",\"range\":\"{range}\",\"functions\":[{{\"file\":\"{file}\",\"name\":\"{name}\"}}]}}]}}")?;
+        let text = format!(in alloc;
+            "{{\"advisories\":[{{\"id\":\"X\",\"package\":\"a\",\"range\":\"{range}\",\"functions\":[{{\"file\":\"{file}\",\"name\":\"{name}\"}}]}}]}}"
+        )?;
         finds(&rt, alloc, text.as_str(), expected)?;
     }
     Ok(())
@@ -151,7 +159,9 @@ fn packages_without_a_version_are_told(rt: HostRuntime) -> Result<(), Fail> {
         ("b", "b", ["node_modules/c"].as_slice()),
         ("node_modules/d", "c", &[]),
     ] {
-        let text = format!(in alloc; "{{\"advisories\":[{{\"id\":\"X\",\"package\":\"{first}\",\"range\":\"*\",\"functions\":[]}},{{\"id\":\"Y\",\"package\":\"{second}\",\"range\":\"*\",\"functions\":[]}}]}}")?;
+        let text = format!(in alloc;
+            "{{\"advisories\":[{{\"id\":\"X\",\"package\":\"{first}\",\"range\":\"*\",\"functions\":[]}},{{\"id\":\"Y\",\"package\":\"{second}\",\"range\":\"*\",\"functions\":[]}}]}}"
+        )?;
         let lock = lock_of(alloc)?;
         let advisories = advisories_of(alloc, text.as_str())?;
         let made = locations_without_version(alloc, &lock, advisories.as_slice())?;

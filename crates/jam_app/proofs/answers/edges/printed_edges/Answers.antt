@@ -1,6 +1,7 @@
-use Rattle.std.proofs.Common.{◌≡◌, ◌≤◌, ◌<◌, [], length, map, ap, refl, sym, subst, ◌∙◌}
+use Rattle.std.proofs.Common.{◌≡◌, ◌≤◌, ◌<◌, [], length, map, arith, ap, refl, sym, subst, ◌∙◌}
 use Rattle.std.specs.Prelude.{All}
 use Rattle.std.specs.List.Sorted.{IsStrictlySortedBy}
+use Rattle.std.proofs.lemmas.List.{length-map}
 use Rattle.std.specs.Cmp.Lexicographic.{slice_cmp}
 use Rattle.std.specs.Ordering.{nat_cmp}
 use Rattle.composer.specs.Edges.{IsEdgeList}
@@ -30,6 +31,12 @@ composed-requires-clause-links c =
     let are : AreLinks lists links = subst (λ ls. AreLinks (map (λ (l : Loaded). l.summary.lists) ls) links) c.as_slice.ensures.value c.in_ok-links.ensures.ascend in
     subst (λ ls. AreLinks (lists_of c.as_slice-3.result.now) ls) (sym c.as_slice-4.ensures.value)
     (subst (λ ms. AreLinks ms links) (sym (ap lists_of (c.as_slice-3.ensures.value ∙ c.in_ok-parts.ensures) ∙ parts_lists loaded)) are)
+
+pub composed-requires-clause-few : goal.composed-requires-clause-few
+composed-requires-clause-few c =
+    let loaded = c.args.loaded.items in
+    let long : length c.as_slice-3.result.now ≡ length loaded = ap length (c.as_slice-3.ensures.value ∙ c.in_ok-parts.ensures) ∙ length-map loaded part_of in
+    omega (arith, long, c.requires.few)
 
 pub returns-in_err-graph-clause-wide : goal.returns-in_err-graph-clause-wide
 returns-in_err-graph-clause-wide c =

@@ -1,6 +1,8 @@
-use Rattle.std.proofs.Common.{◌≡◌, ◌≤◌, ◌<◌, [], List, length, map, ap, refl, sym, subst, ◌∙◌}
+use Rattle.std.proofs.Common.{◌≡◌, ◌≤◌, ◌<◌, [], List, length, map, arith, ap, refl, sym, subst, ◌∙◌}
 use Rattle.std.specs.Prelude.{All}
 use Rattle.std.specs.List.Sorted.{IsStrictlySortedBy}
+use Rattle.std.proofs.lemmas.List.{length-map}
+use Rattle.std.proofs.lemmas.Option.{slice_get_within}
 use Rattle.std.specs.Cmp.Lexicographic.{slice_cmp}
 use Rattle.std.specs.Ordering.{nat_cmp}
 use Rattle.composer.specs.declared.application.Link.{Link}
@@ -39,11 +41,32 @@ composed-requires-clause-links c =
     subst (λ ls. AreLinks (lists_of c.as_slice-6.result.now) ls) (sym c.as_slice-7.ensures.value)
     (subst (λ ms. AreLinks ms links) (sym (ap lists_of (c.as_slice-6.ensures.value ∙ c.in_ok-parts.ensures) ∙ parts_lists loaded)) are)
 
+pub composed-requires-clause-few : goal.composed-requires-clause-few
+composed-requires-clause-few c =
+    let loaded = c.args.application.modules.items in
+    let long : length c.as_slice-6.result.now ≡ length loaded = ap length (c.as_slice-6.ensures.value ∙ c.in_ok-parts.ensures) ∙ length-map loaded part_of in
+    omega (arith, long, c.requires.few)
+
 pub graph_report-requires-clause-links : goal.graph_report-requires-clause-links
-graph_report-requires-clause-links c = ?
+graph_report-requires-clause-links c =
+    let loaded = c.args.application.modules.items in
+    let links = c.in_ok-links.links.items in
+    let edges = c.in_ok-graph.graph.edges in
+    let parts : c.as_slice-6.result.now ≡ c.as_slice-9.result.now = c.as_slice-6.ensures.value ∙ sym c.as_slice-9.ensures.value in
+    let lists : map (λ (l : Loaded). l.summary.lists) loaded ≡ lists_of c.as_slice-9.result.now = sym (parts_lists loaded) ∙ ap lists_of (sym (c.as_slice-9.ensures.value ∙ c.in_ok-parts.ensures)) in
+    let are : AreLinks (map (λ (l : Loaded). l.summary.lists) loaded) links = subst (λ ls. AreLinks (map (λ (l : Loaded). l.summary.lists) ls) links) c.as_slice.ensures.value c.in_ok-links.ensures.ascend in (
+      links,
+      subst (λ ms. AreLinks ms links) lists are,
+      subst (λ (ps : List Part). IsEdgeList (lists_of ps) links edges) parts (subst (λ (ls : List Link). IsEdgeList (lists_of c.as_slice-6.result.now) ls edges) c.as_slice-7.ensures.value c.in_ok-graph.ensures.edges),
+    )
 
 pub graph_report-requires-clause-entry : goal.graph_report-requires-clause-entry
-graph_report-requires-clause-entry c = ?
+graph_report-requires-clause-entry c =
+    let loaded = c.args.application.modules.items in
+    let stands = c.place_of_loaded-entry.ensures in
+    let long : length c.as_slice-9.result.now ≡ length loaded = ap length (c.as_slice-9.ensures.value ∙ c.in_ok-parts.ensures) ∙ length-map loaded part_of in
+    let within = slice_get_within c.as_slice-5.result.now c.place_of_loaded-entry.result stands.one stands.here in
+    omega (arith, long, within, ap length c.as_slice-5.ensures.value)
 
 pub returns-in_err-graph-clause-wide : goal.returns-in_err-graph-clause-wide
 returns-in_err-graph-clause-wide c =

@@ -17,7 +17,7 @@ returns-clause-gives g c =
     let ok = c.in_ok-parsed.ensures.ok in
     gives_through (λ m modules. (map parsed_of modules.items ≡ parsed) × All (IsResolved m) modules.items) (λ m modules. (map source_of modules.items ≡ c.args.sources.items) × All (IsKept c.args.skip m) modules.items)
     (λ m owed. ⊥) (λ m owed. HasBad c.args.skip c.args.sources.items owed) files files _ _ _ c.resolved_round.result refl (omega arith)
-    (any_files files (λ m. (λ made r. (sources_same made.items parsed r.0 ∙ ok.0, all_kept c.args.skip m made.items parsed r.0 ok.1 r.1), λ owed no. absurd no))) c.resolved_round.ensures.gives
+    (any_files files (λ m. (λ made r. (sources_same made.items parsed r.0 ∙ ok.0, all_kept c.args.skip m made.items parsed r.0 ok.1 r.1), λ owed never. absurd never))) c.resolved_round.ensures.gives
 
 pub returns-clause-paths : goal.returns-clause-paths
 returns-clause-paths g c =

@@ -46,7 +46,7 @@ returns-in_err-module-clause-gives g c =
     let inv = c.loop-parsed.invariant in
     let files = g.F.Folder.files c.args.folder.now in
     handed_on _ (λ m owed. ⊥) _ files _ _ _ _ c.in_err-module.field-0.0 c.from_residual.result
-    c.from_residual.ensures.1 inv.same (omega (arith, inv.quiet)) (any_files files (λ m owed no. no)) c.in_err-module.ensures.gives
+    c.from_residual.ensures.1 inv.same (omega (arith, inv.quiet)) (any_files files (λ m owed never. never)) c.in_err-module.ensures.gives
 
 pub returns-clause-gives : goal.returns-clause-gives
 returns-clause-gives g c =
