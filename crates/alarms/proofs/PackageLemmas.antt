@@ -1,12 +1,14 @@
 -- Advisories by the names of their packages.
-use Rattle.std.proofs.Common.{◌≡◌, ℕ, zero, suc, ◌+◌, ◌<◌, Bool, true, false, true≢false, not, ◌||◌, ◌==◌, List, [], ◌∷◌, ◌++◌, drop, length, get_or, Some, None, refl, sym, ap, subst, ◌∙◌, arith, inl, inr, append_assoc, if◌then◌else◌}
-use Rattle.std.specs.Prelude.{Contains, slice_get}
+use Rattle.std.proofs.Common.{◌≡◌, ℕ, zero, suc, ◌+◌, ◌<◌, Bool, true, false, true≢false, not, ◌||◌, ◌==◌, List, [], ◌∷◌, ◌++◌, drop, length, get_or, cond, Option, Some, None, refl, sym, ap, subst, ◌∙◌, arith, inl, inr, append_assoc, if◌then◌else◌}
+use Rattle.std.specs.Prelude.{Contains, slice_get, unwrap_or}
 use Rattle.std.specs.Borrow.{Bor}
-use Rattle.std.specs.BTreeMap.{BTreeMap}
-use Rattle.std.specs.Cmp.Lexicographic.{nat_list_eq_equiv}
+use Rattle.std.specs.BTreeMap.{BTreeMap, is_at}
+use Rattle.std.specs.Cmp.Lexicographic.{nat_list_eq_equiv, slice_cmp}
 use Rattle.std.specs.List.{list_any}
+use Rattle.std.specs.Map.{lookup}
+use Rattle.std.specs.Ordering.{nat_cmp}
 use Rattle.std.specs.Str.{bytes_eq}
-use Rattle.std.proofs.lemmas.List.{append-nil, drop_more}
+use Rattle.std.proofs.lemmas.List.{append-nil, drop_all, drop_more}
 use Rattle.std.proofs.lemmas.List.Elements.{Contains-append_cases, Contains-append_right}
 use Rattle.std.proofs.lemmas.Option.{none-some, same_Some, slice_get_within}
 use Rattle.std.proofs.lemmas.Slice.Eq.{bytes_eq-Decides}
@@ -59,6 +61,18 @@ has_place n name (b ∷ more) (suc k) a here named =
 
 -- ---- what is kept
 
+-- what is kept under a name that is looked up
+pub kept_none : (kept : BTreeMap (Bor (List ℕ)) (List ℕ)) (name : List ℕ) → kept.entries ≡ [] → places_in kept name ≡ []
+kept_none kept name empty = ap (λ (es : List (Bor (List ℕ) × List ℕ)). unwrap_or (lookup (is_at (λ (k : Bor (List ℕ)). slice_cmp nat_cmp name k.now)) es) []) empty
+
+pub chosen : (b : Bool) (here : List ℕ) (o : Option (List ℕ)) → unwrap_or (cond b (Some here) o) [] ≡ (if b then here else unwrap_or o [])
+chosen true here o = refl
+chosen false here o = refl
+
+pub left_out : (b : Bool) (o : Option (List ℕ)) → unwrap_or (cond b None o) (let none : List ℕ = [] in none) ≡ (if b then [] else unwrap_or o [])
+left_out true o = refl
+left_out false o = refl
+
 -- one more place is kept under its name
 kept_if : (kept : BTreeMap (Bor (List ℕ)) (List ℕ)) (name «package» : List ℕ) (place : ℕ) (b : Bool) → (b ≡ true → «package» ≡ name) → (if b then places_in kept «package» ++ place ∷ [] else (if b then [] else places_in kept name)) ≡ places_in kept name ++ (if b then place ∷ [] else [])
 kept_if kept name «package» place true same = ap (λ n. places_in kept n ++ place ∷ []) (same refl)
@@ -80,6 +94,11 @@ kept_more advisories a i kept new name lt is was new_is =
     let parts : drop i advisories ≡ a ∷ drop (i + 1) advisories = drop_more advisories i a lt ∙ ap (λ x. x ∷ drop (i + 1) advisories) (sym is) in
     ap (λ xs. xs ++ places_from (i + 1) name (drop (i + 1) advisories)) new_is ∙ append_assoc kept front (places_from (i + 1) name (drop (i + 1) advisories))
     ∙ ap (λ rest. kept ++ places_from i name rest) (sym parts) ∙ was
+
+pub kept_all : (advisories : List Advisory) (i : ℕ) (kept name : List ℕ) → i ≡ length advisories → kept ++ places_from i name (drop i advisories) ≡ places_of advisories name → kept ≡ places_of advisories name
+kept_all advisories i kept name last was =
+    let rest : drop i advisories ≡ [] = drop_all i advisories (omega (arith, last)) in
+    sym (append-nil kept) ∙ ap (λ (left : List Advisory). kept ++ places_from i name left) (sym rest) ∙ was
 
 -- there is a place exactly where an advisory is on the package
 any_more : (n : ℕ) (any b : Bool) (places : List ℕ) → any ≡ not (length places == 0) → (b || any) ≡ not (length ((if b then n ∷ [] else []) ++ places) == 0)
