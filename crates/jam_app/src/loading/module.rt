@@ -5,7 +5,7 @@ ghost use Rattle.jam_app.specs.Loading.{IsAnalysed, IsKept, IsSummaryOf};
 ghost use Rattle.js_tree.specs.Spells.{SpellsSome};
 ghost use Rattle.jam_app.specs.Reading.{HasBad, IsParsed, IsRefusedFor, IsResolved, parsed_of, source_of};
 ghost use Rattle.jam_app.specs.Texts.{IsBad};
-ghost use Rattle.jam_app.specs.Stops.{CountsFaults, Gives, HasStopCause, StopsFor};
+ghost use Rattle.jam_app.specs.Stops.{CountsFaults, Gives, HasBadCause, HasStopCause, StopsFor};
 
 use crate::Stop;
 use crate::answers::message::{not_in_profile, too_large};
@@ -82,13 +82,23 @@ fn parsed_file<L: Ledger>(
             tree,
             skipped: false,
         }),
-        Err(Bad::OutOfMemory) => Err(Stop::OutOfMemory),
-        Err(bad) => {
-            if skip {
-                return Ok(skipped_file(alloc, source));
-            }
-            Err(stop_for(alloc, source.path, bad))
-        }
+        Err(bad) => without_tree(alloc, source, skip, bad),
+    }
+}
+
+// What a file without a tree means: it is skipped, unless such files aren't, or there was no memory.
+fn without_tree(alloc: Global, source: Source, skip: bool, bad: Bad) -> Result<Parsed, Stop>
+    requires { HasBadCause source.bytes.items bad }
+    ensures ok { IfOk result (λ p. (p.source ≡ source) × IsParsed skip p) }
+    ensures err { IfErr result (λ stop. (files : Option Files) (before now : ℕ) → HasStopCause (λ m owed. (skip ≡ false) × IsRefusedFor source.path source.bytes.items owed) files before now stop) }
+{
+    if !skip {
+        return Err(stop_for(alloc, source.path, bad));
+    }
+    match bad {
+        Bad::TooLarge(_) => Ok(skipped_file(alloc, source)),
+        Bad::At(_) => Ok(skipped_file(alloc, source)),
+        Bad::OutOfMemory => Err(Stop::OutOfMemory),
     }
 }
 

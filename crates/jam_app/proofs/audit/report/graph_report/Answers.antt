@@ -10,8 +10,8 @@ use Rattle.alarms.specs.declared.found.Found.{Found}
 use Rattle.composer.specs.Parts.{lists_of}
 use Rattle.composer.specs.declared.application.Part.{Part}
 use Rattle.reach_path.specs.Levels.{IsBetween, IsFunction, body_of}
-use Rattle.reach_path.specs.Reached.{path_to}
-use Rattle.jam_app.specs.Showing.{IsInLists, function_counts}
+use Rattle.reach_path.specs.Reached.{IsReachOf, path_to}
+use Rattle.jam_app.specs.Showing.{IsInLists, function_counts, shown_found}
 use Rattle.jam_app.proofs.EdgeEnds.{body_there, edges_between}
 use Rattle.jam_app.proofs.ReportLemmas.{few_functions, in_lists}
 use Rattle.jam_app.proofs.audit.report.graph_report.Goals as goal
@@ -44,4 +44,19 @@ shown_alarms-requires c =
     subst (λ (xs : List Found). All (IsInLists _) xs) (sym c.as_slice-2.ensures.value) (in_lists _ c.args.parts.now reached c.in_ok-found.found.items c.in_ok-found.ensures)
 
 pub returns : goal.returns
-returns c = ?
+returns c = record {
+  reach = c.in_ok-reach.reach;
+  reach_is = subst (λ (es : List Edge). IsReachOf es c.args.entry c.in_ok-reach.reach) c.edges-edges.ensures c.in_ok-reach.ensures;
+  found = c.in_ok-found.found.items;
+  found_are = c.in_ok-found.ensures;
+  alarms = c.of.ensures ∙ c.in_ok-alarms.ensures ∙ ap (map (shown_found _)) c.as_slice-2.ensures.value;
+  notes_are = c.of-2.ensures;
+  counts = λ i. record {
+    modules = length c.args.parts.now;
+    functions = (c.functions.ensures ∙ c.requires.counted) i;
+    reachable = c.count.ensures i;
+    edges = length (c.edges-edges.ensures i);
+    alarms = (c.len.ensures ∙ c.in_ok-alarms.alarms.ok.0 ∙ ap length (sym c.of.ensures)) i;
+    notes = (c.len-2.ensures ∙ c.args.notes.ok.0 ∙ ap length (sym c.of-2.ensures)) i;
+  };
+}

@@ -4,7 +4,7 @@ use Rattle.jam_app.proofs.LinkLemmas.{stands_somewhere}
 use Rattle.jam_app.proofs.loading.links.place_of_loaded.Goals as goal
 
 pub returns-in-Some : goal.returns-in-Some
-returns-in-Some c = ?
+returns-in-Some c = (c.place_of_path.ensures c.in-Some.place).0 c.in-Some.is
 
 pub returns-in-None : goal.returns-in-None
 returns-in-None c =

@@ -20,7 +20,7 @@ loop-alloc-init g c =
       stands = told (g.F.Folder.files c.args.folder.now) c.in_ok-entry.ensures.gives (λ m found. subst (Stands start m progress) (sym (c.in_ok-round.ensures.items ∙ ap (λ p. p ∷ []) c.in_ok-copy.ensures))
           (stands_first m start c.in_ok-entry.entry progress found c.new.ensures.empty refl));
       held = nothing_held c.new.result c.new.ensures.empty;
-      few = omega (arith, ap length c.new.ensures.empty);
+      few = omega (arith, c.new.ensures.len);
       there = inr (subst (λ (ps : List (List ℕ)). Contains ps c.in_ok-entry.entry) (sym (c.in_ok-round.ensures.items ∙ ap (λ p. p ∷ []) c.in_ok-copy.ensures)) (here c.in_ok-entry.entry []));
       modules = omega arith;
       bytes = omega arith;

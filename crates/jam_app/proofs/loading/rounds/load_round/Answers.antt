@@ -48,9 +48,9 @@ pub returns-in_err-modules-clause-counts : goal.returns-in_err-modules-clause-co
 returns-in_err-modules-clause-counts g c = counts_on _ _ _ c.in_err-modules.field-0.0 c.from_residual-in_err-modules.result c.from_residual-in_err-modules.ensures.1 c.in_ok-sources.ensures.counts.done c.in_err-modules.ensures.counts
 
 pub returns-clause-there : goal.returns-clause-there
-returns-clause-there g c path where_ =
+returns-clause-there g c path stands =
     let paths = c.in_ok-modules.ensures.paths ∙ c.in_ok-sources.ensures.paths in
-    (c.in_ok-keep.ensures.here path).1 (elim where_ [ inl old ↦ inl old | inr new ↦ inr (subst (λ (ps : List (List ℕ)). Contains ps path) (sym paths) new) ])
+    (c.in_ok-keep.ensures.here path).1 (elim stands [ inl old ↦ inl old | inr new ↦ inr (subst (λ (ps : List (List ℕ)). Contains ps path) (sym paths) new) ])
 
 pub returns-clause-few : goal.returns-clause-few
 returns-clause-few g c =
