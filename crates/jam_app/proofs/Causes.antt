@@ -1,6 +1,6 @@
 -- Stops and their causes, over a folder that may tell its files.
 use Rattle.std.proofs.Common.{◌≡◌, ℕ, ◌≤◌, List, ap, sym, subst, ◌∙◌, arith, Bool, Option, Some, None, Result, Ok, Err}
-use Rattle.std.specs.Result.{IfErr, IsErrAnd}
+use Rattle.std.specs.Result.{IfErr, IfOk, IsErrAnd}
 use Rattle.std.specs.Option.{IfSome}
 use Rattle.jam_base.specs.Causes.{Rose}
 use Rattle.jam_base.specs.Files.{Files}
@@ -44,6 +44,11 @@ three_told {P} {Q} {R} first second third same later p q r =
 pub any_files : {P : Files → Type 0} (files : Option Files) → ((m : Files) → P m) → IfSome files P
 any_files None f = tt
 any_files (Some m) f = f m
+
+-- what holds of all results holds of the one that there is
+pub for_all_ok : {X E : Type 0} {P : X → Type 0} (r : Result X E) → ((x : X) → P x) → IfOk r P
+for_all_ok (Ok x) all = all x
+for_all_ok (Err e) all = tt
 
 -- a count that rose after another call rose
 pub rose_later : (before mid now : ℕ) → before ≤ mid → Rose mid now → Rose before now

@@ -6,6 +6,7 @@ pub mod CommandLemmas
 pub mod EdgeEnds
 pub mod Ends
 pub mod FileLemmas
+pub mod Finishing
 pub mod Following
 pub mod Keeping
 pub mod LinkLemmas

@@ -1,5 +1,5 @@
 //! The call graph of an application, as text.
-ghost use Rattle.std.specs.Prelude.{◌≡◌};
+ghost use Rattle.std.specs.Prelude.{◌≡◌, false, IfOk};
 ghost use Rattle.word_reader.specs.declared.table.Command.TheVariants as command;
 ghost use Rattle.jam_app.specs.Refusals.{IsRefusal};
 ghost use Rattle.jam_app.specs.Stops.{CountsFaults, Gives, IsOwed};
@@ -23,6 +23,7 @@ pub(crate) fn graph<F: Folder, L: Ledger>(
     requires { request.now.command ≡ command.Graph }
     ensures gives { Gives (λ m made. IsOwed request.now m made) (IsRefusal request.now)
         (F.files folder.old) (F.faults folder.old) (F.faults folder.new) result }
+    ensures unalarmed { IfOk result (λ made. made.alarmed ≡ false) }
     ensures same { F.files folder.new ≡ F.files folder.old }
     ensures counts { CountsFaults (F.faults folder.old) (F.faults folder.new) result }
 {
