@@ -7,12 +7,23 @@ use Rattle.word_reader.specs.Requests.{Asked}
 use Rattle.jam_app.specs.declared.answers.status.Status.{Status}
 use Rattle.jam_app.specs.declared.answers.status.Status.TheVariants as statuses
 use Rattle.jam_app.specs.declared.audit.report.Output.{Output}
-use Rattle.jam_app.specs.Outcomes.{Completes, IsOwedText, RefusesRightly, WhereTold, Writes, WritesOut}
+use Rattle.jam_app.specs.declared.answers.line.Line.TheVariants.{Nothing}
+use Rattle.jam_app.specs.Lines.{TellsStatus}
+use Rattle.jam_app.specs.Outcomes.{Completes, IsOwedText, RefusesRightly, WhereTold, Writes, WritesOut, done_status}
 use Rattle.jam_app.specs.Stops.{IsOwed}
 use Rattle.jam_app.specs.Written.{TakesAll, TakesFront}
 use Rattle.jam_app.proofs.Causes.{any_files, told}
 
+pub done_told : (b : Bool) → TellsStatus (done_status b) Nothing
+done_told true = refl
+done_told false = refl
+
 module _ (old new : Option (List ℕ)) (before now : ℕ) (output : Output) where
+  -- the status of work that is done
+  pub done_writes : (b : Bool) → output.alarmed ≡ b → now ≡ before → TakesAll old new output.text → Writes old new before now output (done_status b)
+  done_writes true is same all = (same, is, all)
+  done_writes false is same all = (same, is, all)
+
   pub no_usage : (status : Status) → Writes old new before now output status → status ≢ statuses.Usage
   no_usage status wrote is = subst (Writes old new before now output) is wrote
 
