@@ -1,5 +1,5 @@
 -- What is printed of modules.
-use Rattle.std.proofs.Common.{◌≡◌, ℕ, ◌+◌, ◌<◌, List, [], ◌∷◌, ◌++◌, map, length, take, get_or, refl, sym, ap, ◌∙◌, arith, append_assoc}
+use Rattle.std.proofs.Common.{◌≡◌, ℕ, ◌+◌, ◌<◌, ◌≤◌, Bool, true, false, ◌&&◌, if◌then◌else◌, nat_le, List, [], ◌∷◌, ◌++◌, map, length, take, get_or, refl, sym, ap, ◌∙◌, arith, append_assoc}
 use Rattle.std.specs.Prelude.{slice_get, Some, None}
 use Rattle.std.specs.List.{HoldsAt}
 use Rattle.std.specs.Ordering.{nat_cmp}
@@ -8,6 +8,12 @@ use Rattle.composer.proofs.OrderLemmas.{both_equal, ranked_equal}
 use Rattle.jam_base.specs.Edges.{edge_order}
 use Rattle.report_text.specs.declared.shown.PathStep.{PathStep}
 use Rattle.jam_base.specs.declared.edge.Edge.{Edge}
+use Rattle.std.proofs.lemmas.Bool.Decides.{nat_tests}
+use Rattle.js_tree.specs.Spells.{limit}
+use Rattle.jam_app.specs.Graphs.{place_text}
+use Rattle.jam_app.specs.Texts.{is_ascii}
+use Rattle.jam_app.proofs.Refusing.{ascii_bytes}
+use Rattle.std.specs.Str.{IsAscii}
 use Rattle.jam_app.specs.Printing.{PrintedModule, call_in, edge_among, function_among}
 use Rattle.std.proofs.lemmas.List.{take_more, map-append, get_or-map, length-map}
 
@@ -56,3 +62,43 @@ pub found_step : (printed : List PrintedModule) (edges : List Edge) (steps : Lis
     → HoldsAt (λ (y : Edge). edge_order y edge ≡ Equal) edges place → step ≡ get_or steps place step → step ≡ edge_among printed edge
 found_step printed edges steps place edge step steps_are lt holds is =
     is ∙ ap (λ (xs : List PathStep). get_or xs place step) steps_are ∙ get_or-map (edge_among printed) edges place edge step lt ∙ ap (edge_among printed) (same_edge (get_or edges place edge) edge (holds edge))
+
+-- ---- the text by which places are told
+
+over : (n m : ℕ) → m < n → nat_le n m ≡ false
+over n m lt = grind (arith, nat_tests)
+
+at_most : (n m : ℕ) → n ≤ m → nat_le n m ≡ true
+at_most n m le = grind (arith, nat_tests)
+
+pub text_of_large : (bytes : List ℕ) → limit < length bytes → [] ≡ place_text bytes
+text_of_large bytes large = sym (ap (λ (b : Bool). if b && is_ascii bytes then bytes else []) (over (length bytes) limit large))
+
+pub text_of_ascii : (bytes : List ℕ) → length bytes ≤ limit → is_ascii bytes ≡ true → bytes ≡ place_text bytes
+text_of_ascii bytes small ascii = λ i. if sym (at_most (length bytes) limit small) i && sym ascii i then bytes else []
+
+pub text_of_other : (bytes : List ℕ) → length bytes ≤ limit → is_ascii bytes ≡ false → [] ≡ place_text bytes
+text_of_other bytes small other = λ i. if sym (at_most (length bytes) limit small) i && sym other i then bytes else []
+
+small : (n m : ℕ) → nat_le n m ≡ true → n ≤ m
+small n m le = grind (arith, nat_tests)
+
+-- it is ASCII, and short
+pub text_ascii : (bytes : List ℕ) → IsAscii (place_text bytes)
+text_ascii bytes = by (nat_le (length bytes) limit) (is_ascii bytes) refl
+  where
+    none : IsAscii []
+    none i = omega arith
+
+    by : (s a : Bool) → is_ascii bytes ≡ a → IsAscii (if s && a then bytes else [])
+    by true true e = ascii_bytes bytes e
+    by true false e = none
+    by false a e = none
+
+pub text_short : (bytes : List ℕ) → length (place_text bytes) < 4294967295
+text_short bytes = by (nat_le (length bytes) limit) (is_ascii bytes) refl
+  where
+    by : (s a : Bool) → nat_le (length bytes) limit ≡ s → length (if s && a then bytes else []) < 4294967295
+    by true true e = omega (arith, small (length bytes) limit e)
+    by true false e = omega arith
+    by false a e = omega arith
