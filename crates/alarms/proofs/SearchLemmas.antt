@@ -22,20 +22,6 @@ use Rattle.alarms.specs.declared.search.Owned.{Owned}
 use Rattle.alarms.proofs.AddsLemmas.{Adds-nothing, Adds-one, Adds-same, Adds-then}
 use Rattle.alarms.proofs.PackageLemmas.{has_place}
 
--- ---- one function
-
-pub one_added : (reached : FunctionRef → Bool) (i : ℕ) (selectors : List Selector) (owned : Owned) (f : ℕ) (function : FunctionInfo) (xs : List Found)
-    → (reached (function_at owned f) && names_any owned.inside.now function.name selectors) ≡ true
-    → Adds (HitsOne reached i selectors owned f function) xs (xs ++ alarm_for owned i f ∷ [])
-one_added reached i selectors owned f function xs hit =
-    Adds-one (HitsOne reached i selectors owned f function) xs (alarm_for owned i f) (record { is = refl; hit = hit }) (λ x h. h.is)
-
-pub none_added : (reached : FunctionRef → Bool) (i : ℕ) (selectors : List Selector) (owned : Owned) (f : ℕ) (function : FunctionInfo) (xs : List Found)
-    → (reached (function_at owned f) && names_any owned.inside.now function.name selectors) ≡ false
-    → Adds (HitsOne reached i selectors owned f function) xs xs
-none_added reached i selectors owned f function xs miss =
-    Adds-nothing (HitsOne reached i selectors owned f function) xs (λ x h. true≢false (sym h.hit ∙ miss))
-
 -- ---- below a place
 
 -- what is added for all items of a list, where it is one after another for those below a place
@@ -90,9 +76,13 @@ pub advisory_added : (reached : FunctionRef → Bool) (i : ℕ) (advisory : Advi
 advisory_added reached i advisory owned xs zs yes_ a =
     Adds-same (Hits reached i advisory.functions owned) (HitsBy reached i advisory owned) xs zs a (λ x h. record { concerned = yes_; hits = h }) (λ x h. h.hits)
 
-pub advisory_passed : (reached : FunctionRef → Bool) (i : ℕ) (advisory : Advisory) (owned : Owned) (xs : List Found) → concerns advisory owned.entry.now ≡ false
-    → Adds (HitsBy reached i advisory owned) xs xs
-advisory_passed reached i advisory owned xs no_ = Adds-nothing (HitsBy reached i advisory owned) xs (λ x h. true≢false (sym h.concerned ∙ no_))
+-- what the advisory at a place adds
+pub place_added : (reached : FunctionRef → Bool) (advisories : List Advisory) (owned : Owned) (i : ℕ) (advisory : Advisory) (xs zs : List Found) → slice_get advisories i ≡ Some advisory
+    → Adds (HitsBy reached i advisory owned) xs zs → Adds (HitsAt reached advisories owned i) xs zs
+place_added reached advisories owned i advisory xs zs here a =
+    Adds-same (HitsBy reached i advisory owned) (HitsAt reached advisories owned i) xs zs a
+    (λ x h. record { advisory = advisory; here = here; hits = h })
+    (λ x h. subst (λ (b : Advisory). HitsBy reached i b owned x) (same_Some h.advisory advisory (sym h.here ∙ here)) h.hits)
 
 both_true : (a b : Bool) → (a && b) ≡ true → (a ≡ true) × (b ≡ true)
 both_true true true e = (refl, refl)
@@ -183,15 +173,6 @@ module _ (entries : List LockEntry) (advisories : List Advisory) (parts : List P
 
   pub module_added : (xs zs : List Found) → Adds (HitsAny reached advisories owned) xs zs → Adds (OfModule entries advisories parts reached owned.m) xs zs
   module_added xs zs a = Adds-same (HitsAny reached advisories owned) (OfModule entries advisories parts reached owned.m) xs zs a alarm_of hits_of
-
--- a module that no package owns
-pub module_passed : (entries : List LockEntry) (advisories : List Advisory) (parts : List Part) (reached : FunctionRef → Bool) (m : ℕ) (part : Part) (xs : List Found)
-    → slice_get parts m ≡ Some part → IsOwner entries part.path None → Adds (OfModule entries advisories parts reached m) xs xs
-module_passed entries advisories parts reached m part xs part_at none = Adds-nothing (OfModule entries advisories parts reached m) xs (λ x of.
-    let alarm = of.alarm in
-    let same_part : alarm.part ≡ part = same_Some alarm.part part (sym alarm.part_at ∙ ap (slice_get parts) of.module_is ∙ part_at) in
-    let owner : IsOwner entries part.path (Some alarm.entry) = subst (λ (p : Part). IsOwner entries p.path (Some alarm.entry)) same_part alarm.owner in
-    true≢false (sym owner.1 ∙ none alarm.entry owner.0))
 
 -- ---- all modules
 

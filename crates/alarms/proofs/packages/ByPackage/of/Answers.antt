@@ -13,7 +13,7 @@ loop-i-preserved c name =
     = c.in_ok-push_place.ensures name ∙ (λ k. kept ++ place_if name (c.as_str-package.ensures k) (c.in_ok-number.ensures k)) in
     kept_more c.args.advisories.now c.index-advisories-i.result c.loop-i.i kept (places_in c.push_place.new.places name) name c.loop-i-test.true c.index-advisories-i.is (c.loop-i.invariant name) step
 
-pub returns-invariant : goal.returns-invariant
-returns-invariant c name =
+pub invariant_of-result : goal.invariant_of-result
+invariant_of-result c name =
     let last : c.loop-i.i ≡ length c.args.advisories.now = omega (arith, c.loop-i-test.false, c.loop-i.auto.i-end) in
     kept_all c.args.advisories.now c.loop-i.i (places_in c.loop-i.places name) name last (c.loop-i.invariant name)
