@@ -69,8 +69,7 @@ impl Printed {
     pub(crate) fn place(&self, offset: u32) -> Place
         ensures { spot_of result ≡ spot_at self.now.text offset }
     {
-        let text = self.text.as_str();
-        place_of(text, (offset as usize).min(text.len()) as u32)
+        place_within(self.text.as_str(), offset)
     }
 
     /// The function with this number.
@@ -177,6 +176,15 @@ fn places_within(alloc: Global, text: &str, offsets: &[u32]) -> Result<Vec<Place
 {
     let within = within(alloc, text, offsets)?;
     places_of(alloc, text, within.as_slice())
+}
+
+// Where an offset is; one past the end counts as the end.
+fn place_within(text: &str, offset: u32) -> Place
+    requires ascii { IsAscii text.now }
+    requires short { length text.now < 4294967295 }
+    ensures { spot_of result ≡ spot_at text.now offset }
+{
+    place_of(text, (offset as usize).min(text.len()) as u32)
 }
 
 // The offsets, where one past the end counts as the end.
