@@ -84,27 +84,23 @@ pub(crate) fn number(place: usize) -> Result<u32, OutOfMemory>
 // Keeps one more place under a name.
 fn push_place<'a>(
     alloc: Global,
-    package: &'a str,
+    key: &'a str,
     place: u32,
     places: &mut BTreeMap<&'a str, Places<u32>>,
 ) -> Result<(), OutOfMemory>
-    ensures { OnOk result ((name : List ℕ) → places_in places.new name ≡ places_in places.old name ++ place_if name package.now place) }
+    ensures { OnOk result ((name : List ℕ) → places_in places.new name ≡ places_in places.old name ++ place_if name key.now place) }
 {
-    let mut here = taken(alloc, package, places);
+    let mut here = taken(alloc, key, places);
     here.push(place)?;
-    put(package, Places::of(here), places)
+    put(key, Places::of(here), places)
 }
 
 // Takes the places that are kept under a name.
-fn taken<'a>(
-    alloc: Global,
-    package: &'a str,
-    places: &mut BTreeMap<&'a str, Places<u32>>,
-) -> Vec<u32>
-    ensures here { result.items ≡ places_in places.old package.now }
-    ensures left { (name : List ℕ) → places_in places.new name ≡ (if bytes_eq package.now name then [] else places_in places.old name) }
+fn taken<'a>(alloc: Global, key: &'a str, places: &mut BTreeMap<&'a str, Places<u32>>) -> Vec<u32>
+    ensures here { result.items ≡ places_in places.old key.now }
+    ensures left { (name : List ℕ) → places_in places.new name ≡ (if bytes_eq key.now name then [] else places_in places.old name) }
 {
-    match places.remove(package) {
+    match places.remove(key) {
         Some(here) => here.into_vec(),
         None => Vec::new(alloc),
     }
@@ -112,12 +108,12 @@ fn taken<'a>(
 
 // Keeps places under a name, in place of those that were there.
 fn put<'a>(
-    package: &'a str,
+    key: &'a str,
     here: Places<u32>,
     places: &mut BTreeMap<&'a str, Places<u32>>,
 ) -> Result<(), OutOfMemory>
-    ensures { OnOk result ((name : List ℕ) → places_in places.new name ≡ (if bytes_eq package.now name then here else places_in places.old name)) }
+    ensures { OnOk result ((name : List ℕ) → places_in places.new name ≡ (if bytes_eq key.now name then here else places_in places.old name)) }
 {
-    places.insert(package, here)?;
+    places.insert(key, here)?;
     Ok(())
 }

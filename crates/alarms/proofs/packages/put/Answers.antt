@@ -11,5 +11,5 @@ use Rattle.alarms.proofs.packages.put.Goals as goal
 
 pub returns : goal.returns
 returns c name =
-    ap (λ (o : Option (List ℕ)). unwrap_or o []) (btree_map_updates_str c.args.package.now c.args.places.now c.insert.new.self (Some c.args.here) c.in_ok-insert.ensures.updates name)
-    ∙ chosen (bytes_eq c.args.package.now name) c.args.here (get_by (λ (k : Bor (List ℕ)). slice_cmp nat_cmp name k.now) c.args.places.now)
+    ap (λ (o : Option (List ℕ)). unwrap_or o []) (btree_map_updates_str c.args.key.now c.args.places.now c.insert.new.self (Some c.args.here) c.in_ok-insert.ensures.updates name)
+    ∙ chosen (bytes_eq c.args.key.now name) c.args.here (get_by (λ (k : Bor (List ℕ)). slice_cmp nat_cmp name k.now) c.args.places.now)

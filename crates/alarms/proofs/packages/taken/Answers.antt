@@ -17,10 +17,10 @@ returns-in-None-clause-here c = c.new.ensures.items ∙ sym (ap (λ (o : Option 
 
 pub returns-in-Some-clause-left : goal.returns-in-Some-clause-left
 returns-in-Some-clause-left c name =
-    ap (λ (o : Option (List ℕ)). unwrap_or o []) (btree_map_updates_str c.args.package.now c.args.places.now c.remove.new.self None c.remove.ensures.updates name)
-    ∙ left_out (bytes_eq c.args.package.now name) (get_by (λ (k : Bor (List ℕ)). slice_cmp nat_cmp name k.now) c.args.places.now)
+    ap (λ (o : Option (List ℕ)). unwrap_or o []) (btree_map_updates_str c.args.key.now c.args.places.now c.remove.new.self None c.remove.ensures.updates name)
+    ∙ left_out (bytes_eq c.args.key.now name) (get_by (λ (k : Bor (List ℕ)). slice_cmp nat_cmp name k.now) c.args.places.now)
 
 pub returns-in-None-clause-left : goal.returns-in-None-clause-left
 returns-in-None-clause-left c name =
-    ap (λ (o : Option (List ℕ)). unwrap_or o []) (btree_map_updates_str c.args.package.now c.args.places.now c.remove.new.self None c.remove.ensures.updates name)
-    ∙ left_out (bytes_eq c.args.package.now name) (get_by (λ (k : Bor (List ℕ)). slice_cmp nat_cmp name k.now) c.args.places.now)
+    ap (λ (o : Option (List ℕ)). unwrap_or o []) (btree_map_updates_str c.args.key.now c.args.places.now c.remove.new.self None c.remove.ensures.updates name)
+    ∙ left_out (bytes_eq c.args.key.now name) (get_by (λ (k : Bor (List ℕ)). slice_cmp nat_cmp name k.now) c.args.places.now)
