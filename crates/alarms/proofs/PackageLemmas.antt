@@ -11,6 +11,7 @@ use Rattle.std.specs.Str.{bytes_eq}
 use Rattle.std.proofs.lemmas.List.{append-nil, drop_all, drop_more}
 use Rattle.std.proofs.lemmas.List.Elements.{Contains-append_cases, Contains-append_right}
 use Rattle.std.proofs.lemmas.Option.{none-some, same_Some, slice_get_within}
+use Rattle.std.proofs.lemmas.Bool.Decides.{nat_tests}
 use Rattle.std.proofs.lemmas.Slice.Eq.{bytes_eq-Decides}
 use Rattle.composer.proofs.Members.{none}
 use Rattle.advisory_reader.specs.declared.advisory.Advisory.{Advisory}
@@ -101,8 +102,11 @@ kept_all advisories i kept name last was =
     sym (append-nil kept) ∙ ap (λ (left : List Advisory). kept ++ places_from i name left) (sym rest) ∙ was
 
 -- there is a place exactly where an advisory is on the package
+not_zero : (n : ℕ) → 0 < n → (n == 0) ≡ false
+not_zero n lt = grind (arith, nat_tests)
+
 any_more : (n : ℕ) (any b : Bool) (places : List ℕ) → any ≡ not (length places == 0) → (b || any) ≡ not (length ((if b then n ∷ [] else []) ++ places) == 0)
-any_more n any true places is = refl
+any_more n any true places is = sym (ap not (not_zero (length (n ∷ places)) (omega arith)))
 any_more n any false places is = is
 
 pub any_place : (n : ℕ) (name : List ℕ) (advisories : List Advisory) → list_any (λ a. bytes_eq name a.package) advisories ≡ not (length (places_from n name advisories) == 0)

@@ -100,7 +100,8 @@ all_places reached advisories owned places xs zs places_are a =
     let entry = owned.entry.now in
     let advisory = h.at.advisory in
     let named : bytes_eq entry.name advisory.package ≡ true = (both_true (bytes_eq entry.name advisory.package) (holds_for advisory.range (version_of entry)) h.at.hits.concerned).0 in
-    let there : Contains places h.i = subst (λ (ps : List ℕ). Contains ps h.i) (sym places_are) (has_place 0 entry.name advisories h.i advisory h.at.here named) in
+    let number : 0 + h.i ≡ h.i = omega arith in
+    let there : Contains places h.i = subst (λ (ps : List ℕ). Contains ps h.i) (sym places_are) (subst (Contains (places_of advisories entry.name)) number (has_place 0 entry.name advisories h.i advisory h.at.here named)) in
     below_all P places x there.0 h.i (slice_get_read places (length places) there.0 h.i refl there.1 (sym there.2)) h.at
     ))
 

@@ -12,8 +12,8 @@ use Rattle.alarms.proofs.PackageLemmas.{place_within}
 use Rattle.alarms.proofs.SearchLemmas.{Below, all_places, below_more}
 use Rattle.alarms.proofs.search.Owned.push_all.Goals as goal
 
-pub push_at-requires-there : goal.push_at-requires-there
-push_at-requires-there c =
+pub push_at-requires-clause-there : goal.push_at-requires-clause-there
+push_at-requires-clause-there c =
     let entry = c.args.self.now.entry.now in
     let places = c.places-places.result.now in
     let place = get_or places c.loop-k.k 0 in
