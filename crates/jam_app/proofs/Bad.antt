@@ -11,7 +11,7 @@ use Rattle.jam_app.specs.declared.answers.stop.Stop.{Stop}
 use Rattle.jam_app.specs.declared.answers.stop.Stop.TheVariants as stops
 use Rattle.jam_app.specs.declared.loading.text.Bad.{Bad}
 use Rattle.jam_app.specs.declared.loading.text.Bad.TheVariants as bad
-use Rattle.jam_app.specs.Reading.{HasBad, IsParsed, IsRefusedFor, not_in_profile, too_large}
+use Rattle.jam_app.specs.Reading.{HasBad, IsParsed, IsRefusedFor, construct, not_in_profile, too_large}
 use Rattle.jam_app.specs.Texts.{IsBad}
 use Rattle.composer.proofs.Members.{here}
 use Rattle.jam_app.proofs.Causes.{any_files, refused_stop, told}
@@ -23,6 +23,8 @@ pub bad_stop : (path text : List ℕ) (b : Bad) (files : Option Files) (before n
 bad_stop path text bad.OutOfMemory files before now stop cause is = subst (HasStopCause (λ m owed. IsRefusedFor path text owed) files before now) (sym is) tt
 bad_stop path text (bad.TooLarge n) files before now stop cause is =
     refused_stop (λ m owed. IsRefusedFor path text owed) (refusal.TooLarge path n) files before now stop is (any_files files (λ m. subst (λ k. IsRefusedFor path text (refusal.TooLarge path k)) (sym cause.1) (too_large cause.0)))
+bad_stop path text (bad.Construct place what) files before now stop cause is =
+    refused_stop (λ m owed. IsRefusedFor path text owed) (refusal.Construct path place.offset what) files before now stop is (any_files files (λ m. construct place.offset what cause.0 cause.1 cause.2))
 bad_stop path text (bad.At place) files before now stop cause is =
     refused_stop (λ m owed. IsRefusedFor path text owed) (refusal.NotInProfile path place.offset) files before now stop is (any_files files (λ m. not_in_profile place.offset cause.0 cause.1 cause.2))
 

@@ -10,7 +10,7 @@ use Rattle.js_tree.specs.Spells.{limit}
 use Rattle.composer.proofs.Members.{here}
 use Rattle.jam_app.specs.declared.answers.refusal.Refusal.{Refusal}
 use Rattle.jam_app.specs.declared.answers.refusal.Refusal.TheVariants as refusal
-use Rattle.jam_app.specs.Refusals.{IsFirstBad, IsOneTooMany, IsReached, IsLoadRefusal, IsRefusal, counted_bytes, load, no_entry, not_in_profile, too_large, too_many, too_wide, without_place}
+use Rattle.jam_app.specs.Refusals.{IsFirstBad, IsOneTooMany, IsReached, IsLoadRefusal, IsRefusal, counted_bytes, construct, load, no_entry, not_in_profile, too_large, too_many, too_wide, without_place}
 use Rattle.jam_app.specs.Rounds.{Fits, IsApplication, IsRound, text_at}
 use Rattle.jam_app.specs.Texts.{IsBad}
 use Rattle.jam_app.proofs.RoundLemmas.{one_round, round_within}
@@ -136,26 +136,42 @@ module _ (m : Files) (operand : List ℕ) where
     ]
   ]
 
+  -- one text is too large or within the limit
+  large_and_small : (p q : List ℕ) → IsFirstBad operand m p → IsFirstBad operand m q → limit < length (text_at m p) → length (text_at m q) ≤ limit → ⊥
+  large_and_small p q one other over within =
+      let same : length (text_at m p) ≡ length (text_at m q) = ap (λ (x : List ℕ). length (text_at m x)) (bad_twice p q one other) in omega (arith, over, within, same)
+
+  -- texts outside the profile
+  outside : (p q : List ℕ) → IsFirstBad operand m p → IsFirstBad operand m q → refusal.NotInProfile p 0 ≡ refusal.NotInProfile q 0
+  outside p q one other = ap (λ (x : List ℕ). refusal.NotInProfile x 0) (bad_twice p q one other)
+
   one_load : (one other : Refusal) → IsLoadRefusal operand m one → IsLoadRefusal operand m other → without_place one ≡ without_place other
   one_load one other (no_entry a) (no_entry b) = refl
-  one_load one other (no_entry a) (too_many e p b) = absurd (none-some b.reached.entry (sym a ∙ b.reached.found))
-  one_load one other (no_entry a) (too_large p b over) = absurd (none-some b.reached.entry (sym a ∙ b.reached.found))
-  one_load one other (no_entry a) (not_in_profile p at b within refused) = absurd (none-some b.reached.entry (sym a ∙ b.reached.found))
+  one_load one other (no_entry a) (too_many d q b) = absurd (none-some b.reached.entry (sym a ∙ b.reached.found))
+  one_load one other (no_entry a) (too_large q b more) = absurd (none-some b.reached.entry (sym a ∙ b.reached.found))
+  one_load one other (no_entry a) (construct q place which b small because) = absurd (none-some b.reached.entry (sym a ∙ b.reached.found))
+  one_load one other (no_entry a) (not_in_profile q place b small because) = absurd (none-some b.reached.entry (sym a ∙ b.reached.found))
   one_load one other (too_many e p a) (no_entry b) = absurd (none-some a.reached.entry (sym b ∙ a.reached.found))
   one_load one other (too_many e p a) (too_many d q b) =
       let same = many_twice e d p q a b in λ i. refusal.TooMany (length (same.0 i) + 1) (counted_bytes m (same.0 i) (same.1 i))
-  one_load one other (too_many e p a) (too_large q b over) = absurd (many_bad e p q a b)
-  one_load one other (too_many e p a) (not_in_profile q at b within refused) = absurd (many_bad e p q a b)
+  one_load one other (too_many e p a) (too_large q b more) = absurd (many_bad e p q a b)
+  one_load one other (too_many e p a) (construct q place which b small because) = absurd (many_bad e p q a b)
+  one_load one other (too_many e p a) (not_in_profile q place b small because) = absurd (many_bad e p q a b)
   one_load one other (too_large p a over) (no_entry b) = absurd (none-some a.reached.entry (sym b ∙ a.reached.found))
-  one_load one other (too_large p a over) (too_many e q b) = absurd (many_bad e q p b a)
+  one_load one other (too_large p a over) (too_many d q b) = absurd (many_bad d q p b a)
   one_load one other (too_large p a over) (too_large q b more) = ap (λ (x : List ℕ). refusal.TooLarge x (length (text_at m x))) (bad_twice p q a b)
-  one_load one other (too_large p a over) (not_in_profile q at b within refused) =
-      let same : length (text_at m p) ≡ length (text_at m q) = ap (λ (x : List ℕ). length (text_at m x)) (bad_twice p q a b) in absurd (omega (arith, over, within, same))
+  one_load one other (too_large p a over) (construct q place which b small because) = absurd (large_and_small p q a b over small)
+  one_load one other (too_large p a over) (not_in_profile q place b small because) = absurd (large_and_small p q a b over small)
+  one_load one other (construct p at what a within refused) (no_entry b) = absurd (none-some a.reached.entry (sym b ∙ a.reached.found))
+  one_load one other (construct p at what a within refused) (too_many d q b) = absurd (many_bad d q p b a)
+  one_load one other (construct p at what a within refused) (too_large q b more) = absurd (large_and_small q p b a more within)
+  one_load one other (construct p at what a within refused) (construct q place which b small because) = outside p q a b
+  one_load one other (construct p at what a within refused) (not_in_profile q place b small because) = outside p q a b
   one_load one other (not_in_profile p at a within refused) (no_entry b) = absurd (none-some a.reached.entry (sym b ∙ a.reached.found))
-  one_load one other (not_in_profile p at a within refused) (too_many e q b) = absurd (many_bad e q p b a)
-  one_load one other (not_in_profile p at a within refused) (too_large q b over) =
-      let same : length (text_at m p) ≡ length (text_at m q) = ap (λ (x : List ℕ). length (text_at m x)) (bad_twice p q a b) in absurd (omega (arith, over, within, same))
-  one_load one other (not_in_profile p at a within refused) (not_in_profile q place b small because) = ap (λ (x : List ℕ). refusal.NotInProfile x 0) (bad_twice p q a b)
+  one_load one other (not_in_profile p at a within refused) (too_many d q b) = absurd (many_bad d q p b a)
+  one_load one other (not_in_profile p at a within refused) (too_large q b more) = absurd (large_and_small q p b a more within)
+  one_load one other (not_in_profile p at a within refused) (construct q place which b small because) = outside p q a b
+  one_load one other (not_in_profile p at a within refused) (not_in_profile q place b small because) = outside p q a b
 
   pub one_refusal : (one other : Refusal) → IsRefusal operand m one → IsRefusal operand m other → without_place one ≡ without_place other
   one_refusal one other (load o a) (load p b) = one_load one other a b

@@ -1,5 +1,6 @@
 -- Why a text has no tree, and where it is left.
 use Rattle.std.proofs.Common.{◌≡◌, ℕ, ◌+◌, ◌-◌, ◌<◌, ◌≤◌, List, [], ◌∷◌, length, ap, sym, subst, ◌∙◌, arith, ⊎_elim, Result, Ok, Err}
+use Rattle.std.specs.Prelude.{IfErr, drop}
 use Rattle.std.specs.Str.{IsCharBoundary}
 use Rattle.std.proofs.lemmas.Bool.{cases_lt}
 use Rattle.std.proofs.lemmas.List.{length-drop}
@@ -12,8 +13,8 @@ use Rattle.js_tokens.specs.Pieces.{IsStop}
 use Rattle.js_parser.specs.declared.fault.Construct.{Construct}
 use Rattle.js_parser.specs.declared.fault.ParseFault.{ParseFault}
 use Rattle.js_parser.specs.declared.fault.ParseFault.TheVariants as fault
-use Rattle.js_parser.specs.Answers.{TellsTooLarge, IsAtCharacter, IsPlaced, IsTree, IsUnspelled}
-use Rattle.jam_app.specs.Refusals.{IsRefusedAt}
+use Rattle.js_parser.specs.Answers.{Begins, NamesConstruct, TellsTooLarge, IsAtCharacter, IsPlaced, IsTree, IsUnspelled}
+use Rattle.jam_app.specs.Refusals.{IsConstructAt, IsRefusedAt}
 use Rattle.jam_app.specs.Texts.{IsOnlyTree, IsBad}
 
 -- a token ends within the text that is left
@@ -69,6 +70,14 @@ pub bad_text : (text : List ℕ) (at offset : ℕ) (f : ParseFault) (r : Result 
     → IsBad text × (length text ≤ limit) × IsRefusedAt text offset
 bad_text text at offset f r stops told tells placed none is =
     (unspelled_at text at f r stops told none, within_limit text at f r stops tells told, subst (IsRefusedAt text) (sym is) (placed_at text at f r stops told placed))
+
+-- a text that no tree spells, left at a construct
+pub construct_text : (text : List ℕ) (at offset : ℕ) (what : Construct) (r : Result Tree ParseFault) → r ≡ Err (fault.Construct at what) → TellsTooLarge text r → IsPlaced text r → IsUnspelled text r
+    → IfErr r (NamesConstruct text) → offset ≡ at → IsBad text × (length text ≤ limit) × IsConstructAt text offset what
+construct_text text at offset what r told tells placed none named is =
+    let all = bad_text text at offset (fault.Construct at what) r (construct what) told tells placed none is in
+    let here : Begins (drop at text) what = subst (λ s. IfErr s (NamesConstruct text)) told named in
+    (all.0, all.1, record { refused = all.2; begins = subst (λ n. Begins (drop n text) what) (sym is) here })
 
 -- the tree is the only one
 pub one_tree : (text : List ℕ) (tree : Tree) (r : Result Tree ParseFault) → r ≡ Ok tree → Spells text tree

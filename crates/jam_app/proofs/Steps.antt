@@ -15,7 +15,7 @@ use Rattle.jam_app.specs.declared.loading.source.Source.{Source}
 use Rattle.jam_app.specs.Reading as reading
 use Rattle.jam_app.specs.Reading.{HasBad, HasExcess, IsRead, IsRefusedFor, file_at, file_of, led_from, size_of, source_of}
 use Rattle.jam_app.specs.BetweenRounds.{IsHeld, Stands, found_at}
-use Rattle.jam_app.specs.Refusals.{IsFirstBad, IsLoadRefusal, not_in_profile, too_large, too_many}
+use Rattle.jam_app.specs.Refusals.{IsFirstBad, IsLoadRefusal, construct, not_in_profile, too_large, too_many}
 use Rattle.jam_app.specs.Rounds.{Ascend, Fits, IsRound, NoneBad, text_at, total_bytes}
 use Rattle.jam_app.specs.Texts.{IsBad}
 use Rattle.jam_app.proofs.Keeping.{Kept}
@@ -77,10 +77,12 @@ large_bad text over tree s = absurd (omega (arith, over, s.fits))
 
 is_bad : (path text : List ℕ) (owed : Refusal) → IsRefusedFor path text owed → IsBad text
 is_bad path text owed (reading.too_large over) = large_bad text over
+is_bad path text owed (reading.construct at what none within refused) = none
 is_bad path text owed (reading.not_in_profile at none within refused) = none
 
 refuses_for : (m : Files) (operand path : List ℕ) (owed : Refusal) → IsFirstBad operand m path → IsRefusedFor path (text_at m path) owed → IsLoadRefusal operand m owed
 refuses_for m operand path owed first (reading.too_large over) = too_large path first over
+refuses_for m operand path owed first (reading.construct at what none within refused) = construct path at what first within refused
 refuses_for m operand path owed first (reading.not_in_profile at none within refused) = not_in_profile path at first within refused
 
 -- the first bad module of a round is refused

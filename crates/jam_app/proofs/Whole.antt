@@ -22,7 +22,7 @@ use Rattle.jam_app.specs.Entries.{entry_path}
 use Rattle.jam_app.specs.Loading.{IsKept, IsWhole, module_of}
 use Rattle.jam_app.specs.Loading.{IsAnalysed}
 use Rattle.jam_app.specs.BetweenRounds.{HoldsAnalysed, Stands, found_at}
-use Rattle.jam_app.specs.Refusals.{IsFirstBad, IsOneTooMany, IsReached, IsLoadRefusal, no_entry, not_in_profile, too_large, too_many}
+use Rattle.jam_app.specs.Refusals.{IsFirstBad, IsOneTooMany, IsReached, IsLoadRefusal, construct, no_entry, not_in_profile, too_large, too_many}
 use Rattle.jam_app.specs.Rounds.{Ascend, Fits, IsModuleOf, IsRound, LoadedModule, text_at, spelled, total_bytes}
 use Rattle.jam_app.specs.Texts.{IsBad}
 use Rattle.jam_app.proofs.Keeping.{path_of}
@@ -115,6 +115,7 @@ module _ (m : Files) (operand : List ℕ) (progress : Progress) (stands : Stands
   none_owed fits owed (no_entry no_path) = none-some stands.entry (sym no_path ∙ stands.found)
   none_owed fits owed (too_many earlier path one) = no_excess earlier path fits one
   none_owed fits owed (too_large path first over) = no_first_bad path first
+  none_owed fits owed (construct path at what first within refused) = no_first_bad path first
   none_owed fits owed (not_in_profile path at first within refused) = no_first_bad path first
 
   held_all : (es : List (List ℕ × Loaded)) → All (λ e. found_at progress.modules e.0 ≡ Some e.1) es → (map path_of (values_of es) ≡ keys_of es) × All (λ l. (l.text ≡ text_at m l.path) × IsKept m l) (values_of es)

@@ -14,7 +14,8 @@ use Rattle.jam_app.specs.declared.answers.refusal.Refusal.TheVariants as refusal
 use Rattle.jam_app.specs.declared.loading.size.Size.{Size}
 use Rattle.jam_app.specs.declared.loading.source.Source.{Source}
 use Rattle.jam_app.specs.Entries.{module_path}
-use Rattle.jam_app.specs.Refusals.{IsRefusedAt, counted_bytes}
+use Rattle.js_parser.specs.declared.fault.Construct.{Construct}
+use Rattle.jam_app.specs.Refusals.{IsConstructAt, IsRefusedAt, counted_bytes}
 use Rattle.jam_app.specs.Loading.{IsKept}
 
 -- how many modules these are, and how many bytes their texts have together
@@ -45,6 +46,7 @@ pub record HasExcess (files : Files) (earlier paths : List (List ℕ)) (owed : R
 -- the refusal for a module that has no tree
 pub data IsRefusedFor (path text : List ℕ) : Refusal → Type 0 where
   too_large : limit < length text → IsRefusedFor path text (refusal.TooLarge path (length text))
+  construct : (at : ℕ) (what : Construct) → IsBad text → length text ≤ limit → IsConstructAt text at what → IsRefusedFor path text (refusal.Construct path at what)
   not_in_profile : (at : ℕ) → IsBad text → length text ≤ limit → IsRefusedAt text at → IsRefusedFor path text (refusal.NotInProfile path at)
 
 -- the refusal for the first of the modules that has no tree

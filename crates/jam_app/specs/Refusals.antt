@@ -1,8 +1,10 @@
 -- Why a request is refused.
-use Rattle.std.specs.Prelude.{◌≡◌, ℕ, ◌+◌, ◌<◌, ◌≤◌, List, [], ◌∷◌, ◌++◌, length, Some, None, nat_lt, if◌then◌else◌}
+use Rattle.std.specs.Prelude.{◌≡◌, ℕ, ◌+◌, ◌<◌, ◌≤◌, List, [], ◌∷◌, ◌++◌, length, drop, Some, None, nat_lt, if◌then◌else◌}
 use Rattle.js_tree.specs.Lexing.{start_of}
 use Rattle.js_tree.specs.Spells.{limit}
 use Rattle.js_tokens.specs.Pieces.{IsStop}
+use Rattle.js_parser.specs.Answers.{Begins}
+use Rattle.js_parser.specs.declared.fault.Construct.{Construct}
 use Rattle.jam_base.specs.Files.{Files}
 use Rattle.jam_app.specs.Entries.{entry_path}
 use Rattle.jam_app.specs.Texts.{IsBad}
@@ -16,6 +18,11 @@ use Rattle.jam_app.specs.declared.answers.refusal.Refusal.TheVariants as refusal
 -- at its end
 abbrev pub IsRefusedAt : List ℕ → ℕ → Type 0
 IsRefusedAt text at = IsStop (start_of text) at
+
+-- where such a text is refused for a construct: the next token there is the construct's word
+pub record IsConstructAt (text : List ℕ) (at : ℕ) (what : Construct) : Type 0 where
+  pub refused : IsRefusedAt text at
+  pub begins : Begins (drop at text) what
 
 -- a module of a round, in the application with this entry, where no module of an earlier round is bad: the modules of those
 -- rounds, those in front of it in its own, and those behind it
@@ -57,6 +64,8 @@ pub data IsLoadRefusal (operand : List ℕ) (files : Files) : Refusal → Type 0
       → IsLoadRefusal operand files (refusal.TooMany (length earlier + 1) (counted_bytes files earlier path))
   too_large : (path : List ℕ) → IsFirstBad operand files path → limit < length (text_at files path)
       → IsLoadRefusal operand files (refusal.TooLarge path (length (text_at files path)))
+  construct : (path : List ℕ) (at : ℕ) (what : Construct) → IsFirstBad operand files path → length (text_at files path) ≤ limit → IsConstructAt (text_at files path) at what
+      → IsLoadRefusal operand files (refusal.Construct path at what)
   not_in_profile : (path : List ℕ) (at : ℕ) → IsFirstBad operand files path → length (text_at files path) ≤ limit → IsRefusedAt (text_at files path) at
       → IsLoadRefusal operand files (refusal.NotInProfile path at)
 
@@ -75,10 +84,11 @@ pub data IsRefusal (operand : List ℕ) (files : Files) : Refusal → Type 0 whe
   load : (owed : Refusal) → IsLoadRefusal operand files owed → IsRefusal operand files owed
   too_wide : (size : ℕ) → IsTooWide operand files size → IsRefusal operand files (refusal.TooWide size)
 
--- the refusal but for the place at which a text outside the profile was left
+-- the refusal but for the place at which a text outside the profile was left, and for the construct there
 abbrev pub without_place : Refusal → Refusal
 without_place refusal.NoEntry = refusal.NoEntry
 without_place (refusal.TooMany modules bytes) = refusal.TooMany modules bytes
 without_place (refusal.TooLarge path n) = refusal.TooLarge path n
+without_place (refusal.Construct path at what) = refusal.NotInProfile path 0
 without_place (refusal.NotInProfile path at) = refusal.NotInProfile path 0
 without_place (refusal.TooWide size) = refusal.TooWide size

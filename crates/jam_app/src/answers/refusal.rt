@@ -1,5 +1,6 @@
 //! Why a request is refused.
 use jam_base::ModulePath;
+use js_parser::Construct;
 
 /// Why a request is refused.
 #[derive(Debug, PartialEq, Eq, Drop)]
@@ -21,7 +22,16 @@ pub enum Refusal {
         /// How many bytes its text has.
         length: u64,
     },
-    /// No tree spells the text of a module.
+    /// No tree spells the text of a module, and reading stopped at a construct that the profile leaves out.
+    Construct {
+        /// The path of the module.
+        path: ModulePath,
+        /// The offset in bytes, from 0, of the construct's word.
+        at: u32,
+        /// Which one.
+        what: Construct,
+    },
+    /// No tree spells the text of a module, and reading stopped elsewhere.
     NotInProfile {
         /// The path of the module.
         path: ModulePath,

@@ -12,7 +12,7 @@ ghost use Rattle.jam_app.specs.Reading.{HasBad, IsParsed, IsRead, IsRefusedFor, 
 ghost use Rattle.jam_app.specs.Stops.{CountsFaults, Gives, HasStopCause, StopsFor};
 
 use crate::Stop;
-use crate::answers::message::{not_in_profile, too_large};
+use crate::answers::message::{at_construct, not_in_profile, too_large};
 use crate::loading::loaded::{Led, Loaded};
 use crate::loading::source::{Source, module_path};
 use crate::loading::text::{Bad, tree_of};
@@ -96,6 +96,7 @@ fn stop_for(alloc: Global, path: ModulePath, bad: Bad) -> Stop
 {
     match bad {
         Bad::TooLarge(length) => too_large(alloc, path, length),
+        Bad::Construct(place, what) => at_construct(alloc, path, place, what),
         Bad::At(place) => not_in_profile(alloc, path, place),
         Bad::OutOfMemory => Stop::OutOfMemory,
     }

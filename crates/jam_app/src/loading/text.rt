@@ -4,7 +4,7 @@ ghost use Rattle.jam_app.specs.Texts.{IsOnlyTree};
 ghost use Rattle.jam_app.specs.Stops.{HasBadCause};
 
 use jam_base::{Place, Steps, place_of};
-use js_parser::{ParseFault, parse};
+use js_parser::{Construct, ParseFault, parse};
 use js_tree::Tree;
 use std::alloc::Global;
 use std::sync::ledger::Ledger;
@@ -17,6 +17,8 @@ pub(crate) const TEXT_LIMIT: usize = 8_388_608;
 pub(crate) enum Bad {
     /// It has so many bytes, which are too many.
     TooLarge(u64),
+    /// No tree spells it; reading stopped at this place, at the word of this construct.
+    Construct(Place, Construct),
     /// No tree spells it; reading stopped at this place.
     At(Place),
     /// There was no memory.
@@ -35,7 +37,7 @@ pub(crate) fn tree_of<L: Ledger>(
         Ok(tree) => Ok(tree),
         Err(ParseFault::TooLarge { length }) => Err(Bad::TooLarge(length)),
         Err(ParseFault::NotInProfile { at }) => Err(Bad::At(place_of(text, at))),
-        Err(ParseFault::Construct { at, .. }) => Err(Bad::At(place_of(text, at))),
+        Err(ParseFault::Construct { at, what }) => Err(Bad::Construct(place_of(text, at), what)),
         Err(ParseFault::OutOfMemory) => Err(Bad::OutOfMemory),
     }
 }

@@ -1,6 +1,6 @@
 use Rattle.std.proofs.Common.{Err, ap, ◌∙◌}
 use Rattle.jam_base.specs.declared.place.Place.{Place}
-use Rattle.jam_app.proofs.Refusing.{bad_text, boundary_at, construct, elsewhere, one_tree, small_stop}
+use Rattle.jam_app.proofs.Refusing.{bad_text, boundary_at, construct, construct_text, elsewhere, one_tree, small_stop}
 use Rattle.jam_app.proofs.loading.text.tree_of.Goals as goal
 
 pub returns-in-Ok : goal.returns-in-Ok
@@ -24,8 +24,8 @@ place_of-requires-clause-boundary g c =
 
 pub returns-in-Err-Construct : goal.returns-in-Err-Construct
 returns-in-Err-Construct g c =
-    bad_text c.args.text.now c.in-Err-Construct.at _ _ c.parse.result (construct _) (c.in-Err-Construct.is ∙ ap Err c.in-Err-Construct.field-0-is)
-    c.parse.ensures.too_large c.parse.ensures.placed c.parse.ensures.unspelled (ap (λ (p : Place). p.offset) c.place_of-in-Err-Construct.ensures)
+    construct_text c.args.text.now c.in-Err-Construct.at _ _ c.parse.result (c.in-Err-Construct.is ∙ ap Err c.in-Err-Construct.field-0-is)
+    c.parse.ensures.too_large c.parse.ensures.placed c.parse.ensures.unspelled c.parse.ensures.construct (ap (λ (p : Place). p.offset) c.place_of-in-Err-Construct.ensures)
 
 pub place_of-requires-in-Err-Construct-clause-below : goal.place_of-requires-in-Err-Construct-clause-below
 place_of-requires-in-Err-Construct-clause-below g c =
