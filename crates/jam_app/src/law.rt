@@ -5,7 +5,7 @@ ghost use Rattle.jam_app.specs.declared.answers.refusal.Refusal.{Refusal as AnyR
 ghost use Rattle.jam_app.specs.Refusals.{IsRefusal, without_place};
 
 /// An operand over the same files has at most one refusal, but for the place at which a text outside
-/// the profile was left, and whether a construct is named there.
+/// the profile was left, and the construct that is named there.
 pub fn one_refusal()
     ensures { (operand : List ℕ) (files : Files) (one other : AnyRefusal) → IsRefusal operand files one → IsRefusal operand files other → without_place one ≡ without_place other }
 {}
