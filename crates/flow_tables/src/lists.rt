@@ -1,49 +1,75 @@
 //! Lists of what is said of a module, as texts that tests compare.
 use flow_rules::{Constraints, Flow, ModuleNote, NoteKind, Require, Vertex};
-use js_scopes::{FunctionInfo, SiteInfo};
+use js_scopes::{Binding, Bindings, FunctionInfo, SiteInfo, WrapperName};
 use std::alloc::{AllocError, Global};
+use std::test::Fail;
 
-// A line for each list that isn't empty: its name, and its items.
-pub(crate) fn lines_of(alloc: Global, made: &Constraints) -> Result<String, AllocError> {
-    let mut out = first_lines(alloc, made.functions(), made.sites())?;
-    out.push_str(other_lines(alloc, made)?.as_str())?;
-    push_line(&mut out, "flows", flows_text(alloc, made.flows())?.as_str())?;
+// Each list that isn't empty, behind its name.
+pub(crate) fn lists_of(alloc: Global, made: &Constraints) -> Result<String, AllocError> {
+    let mut out = first_lists(alloc, made.functions(), made.sites())?;
+    push_list(&mut out, "", other_lists(alloc, made)?.as_str())?;
+    push_list(
+        &mut out,
+        "flows ",
+        flows_text(alloc, made.flows())?.as_str(),
+    )?;
     Ok(out)
 }
 
-// The lines of these functions and sites.
-pub(crate) fn first_lines(
+// The lists of these functions and sites.
+fn first_lists(
     alloc: Global,
     functions: &[FunctionInfo],
     sites: &[SiteInfo],
 ) -> Result<String, AllocError> {
     let mut out = String::new(alloc);
-    push_line(
+    push_list(
         &mut out,
-        "functions",
+        "functions ",
         functions_text(alloc, functions)?.as_str(),
     )?;
-    push_line(&mut out, "sites", sites_text(alloc, sites)?.as_str())?;
+    push_list(&mut out, "sites ", sites_text(alloc, sites)?.as_str())?;
     Ok(out)
 }
 
-// The lines of the requires and the notes.
-pub(crate) fn other_lines(alloc: Global, made: &Constraints) -> Result<String, AllocError> {
+// The lists of the requires and the notes.
+pub(crate) fn other_lists(alloc: Global, made: &Constraints) -> Result<String, AllocError> {
     let mut out = String::new(alloc);
-    push_line(
+    push_list(
         &mut out,
-        "requires",
+        "requires ",
         requires_text(alloc, made.requires_())?.as_str(),
     )?;
-    push_line(&mut out, "notes", notes_text(alloc, made.notes())?.as_str())?;
+    push_list(
+        &mut out,
+        "notes ",
+        notes_text(alloc, made.notes())?.as_str(),
+    )?;
     Ok(out)
 }
 
-fn push_line(out: &mut String, name: &str, items: &str) -> Result<(), AllocError> {
+fn push_list(out: &mut String, name: &str, items: &str) -> Result<(), AllocError> {
     if items.is_empty() {
         return Ok(());
     }
-    write!(out, "{name} {items}\n")
+    if !out.is_empty() {
+        out.push(' ')?;
+    }
+    write!(out, "{name}{items}")
+}
+
+// Names as OFFSET MEANING, at the offsets of the items that are given.
+pub(crate) fn names_text(alloc: Global, bindings: &Bindings, items: &str) -> Result<String, Fail> {
+    let mut out = String::new(alloc);
+    let mut before = "";
+    for item in items.split(", ") {
+        let (at, _) = item.split_once(' ').ok_or("offset")?;
+        let start = at.parse::<u32>().ok().ok_or("offset")?;
+        let meaning = meaning(alloc, bindings.of(start))?;
+        write!(out, "{before}{start} {}", meaning.as_str())?;
+        before = ", ";
+    }
+    Ok(out)
 }
 
 // Functions as START/PARAMS NAME.
@@ -141,4 +167,18 @@ fn push_vertex(out: &mut String, vertex: &Vertex) -> Result<(), AllocError> {
         Vertex::Var { local } => write!(out, "var:{local}"),
         Vertex::Exp { number } => write!(out, "exp:{number}"),
     }
+}
+
+// What a name means: `local 3`, `require`, `arguments 0` or `global`.
+fn meaning(alloc: Global, binding: Binding) -> Result<String, AllocError> {
+    Ok(match binding {
+        Binding::Local(number) => format!(in alloc; "local {number}")?,
+        Binding::Wrapper(WrapperName::Exports) => format!(in alloc; "exports")?,
+        Binding::Wrapper(WrapperName::Require) => format!(in alloc; "require")?,
+        Binding::Wrapper(WrapperName::Module) => format!(in alloc; "module")?,
+        Binding::Wrapper(WrapperName::Filename) => format!(in alloc; "__filename")?,
+        Binding::Wrapper(WrapperName::Dirname) => format!(in alloc; "__dirname")?,
+        Binding::Arguments(function) => format!(in alloc; "arguments {function}")?,
+        Binding::Global => format!(in alloc; "global")?,
+    })
 }

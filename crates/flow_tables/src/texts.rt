@@ -5,7 +5,7 @@ ghost use Rattle.js_tree.specs.Spells.{SpellsSome};
 use flow_rules::{Constraints, constraints};
 use jam_base::{OutOfMemory, Steps, Text};
 use js_parser::{ParseFault, parse};
-use js_scopes::{Binding, WrapperName, bind};
+use js_scopes::bind;
 use js_tree::Tree;
 use std::alloc::Global;
 use std::marker::Brand;
@@ -31,28 +31,10 @@ pub(crate) fn tree_of(alloc: Global, text: &str) -> Result<Tree, ParseFault>
     read_with::<Brand>(alloc, &text, Blank::new(1))
 }
 
-// What a name means: `local 3`, `require`, `arguments 0` or `global`.
-pub(crate) fn meaning(alloc: Global, binding: Binding) -> Result<String, OutOfMemory> {
-    Ok(match binding {
-        Binding::Local(number) => format!(in alloc; "local {number}")?,
-        Binding::Wrapper(WrapperName::Exports) => format!(in alloc; "exports")?,
-        Binding::Wrapper(WrapperName::Require) => format!(in alloc; "require")?,
-        Binding::Wrapper(WrapperName::Module) => format!(in alloc; "module")?,
-        Binding::Wrapper(WrapperName::Filename) => format!(in alloc; "__filename")?,
-        Binding::Wrapper(WrapperName::Dirname) => format!(in alloc; "__dirname")?,
-        Binding::Arguments(function) => format!(in alloc; "arguments {function}")?,
-        Binding::Global => format!(in alloc; "global")?,
-    })
-}
-
-// What the tree of the text says of its values.
-pub(crate) fn constraints_of(alloc: Global, text: &str) -> Result<Constraints, ParseFault> {
-    let tree = tree_of(alloc, text)?;
-    let Ok(bindings) = bind(alloc, &tree) else {
-        return Err(ParseFault::OutOfMemory);
-    };
-    let Ok(made) = constraints(alloc, &tree, &bindings) else {
-        return Err(ParseFault::OutOfMemory);
-    };
-    Ok(made)
+// What the tree says of its values.
+pub(crate) fn constraints_of(alloc: Global, tree: &Tree) -> Result<Constraints, OutOfMemory>
+    requires { SpellsSome tree.now }
+{
+    let bindings = bind(alloc, tree)?;
+    constraints(alloc, tree, &bindings)
 }
