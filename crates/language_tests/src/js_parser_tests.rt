@@ -18,7 +18,8 @@ fn read_with<L: Ledger>(alloc: Global, text: &Text, blank: Blank) -> Result<Tree
     parse(alloc, text.as_str(), &mut steps)
 }
 
-fn read(alloc: Global, text: &str) -> Result<Tree, ParseFault> {
+// The tree of the text.
+pub(crate) fn read(alloc: Global, text: &str) -> Result<Tree, ParseFault> {
     let Ok(text) = Text::of(alloc, text) else {
         return Err(ParseFault::OutOfMemory);
     };
