@@ -169,10 +169,10 @@ fn reach(expr: &Expr) -> u32 {
         Level::Unary,
         Level::Postfix,
     ];
-    let mut reach = 0;
+    let mut reach = 0u32;
     for level in levels {
         if admits(level, expr) {
-            reach += 1;
+            reach = reach.saturating_add(1u32);
         }
     }
     reach
