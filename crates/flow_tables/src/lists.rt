@@ -61,13 +61,14 @@ fn push_list(out: &mut String, name: &str, items: &str) -> Result<(), AllocError
 // Names as OFFSET MEANING, at the offsets of the items that are given.
 pub(crate) fn names_text(alloc: Global, bindings: &Bindings, items: &str) -> Result<String, Fail> {
     let mut out = String::new(alloc);
-    let mut before = "";
     for item in items.split(", ") {
+        if !out.is_empty() {
+            out.push_str(", ")?;
+        }
         let (at, _) = item.split_once(' ').ok_or("offset")?;
         let start = at.parse::<u32>().ok().ok_or("offset")?;
         let meaning = meaning(alloc, bindings.of(start))?;
-        write!(out, "{before}{start} {}", meaning.as_str())?;
-        before = ", ";
+        write!(out, "{start} {}", meaning.as_str())?;
     }
     Ok(out)
 }
