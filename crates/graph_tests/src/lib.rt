@@ -13,3 +13,5 @@ mod reach_path_tests;
 mod report_tests;
 #[cfg(test)]
 mod report_text_tests;
+#[cfg(test)]
+mod set_pool_tests;
