@@ -2,7 +2,7 @@
 use Rattle.std.specs.Prelude.{ℕ, Bool, true, false}
 use Rattle.js_tree.specs.declared.tree.Expr.TheOpen.{Expr-F}
 use Rattle.js_tree.specs.Folds.{ExprLayer}
-use Rattle.js_tree.specs.Spelling.{expr}
+use Rattle.js_tree.specs.Spelling.{expr, function}
 use Rattle.js_tree.specs.Spelling.Chains.{ends_in_member}
 use Rattle.js_tree.specs.Spelling.Nodes.{ASSIGN, COND, POWER, UNARY, POSTFIX, CHAIN, binary_rank}
 
@@ -15,6 +15,7 @@ kind_rank (Expr-F.Binary level first others) = binary_rank level
 kind_rank (Expr-F.Power base op exponent) = POWER
 kind_rank (Expr-F.Unary op operand) = UNARY
 kind_rank (Expr-F.Postfix target op) = POSTFIX
+kind_rank (Expr-F.«Expr::Fun» f) = (function f).rank
 kind_rank _ = CHAIN
 
 -- whether it is a target

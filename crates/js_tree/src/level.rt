@@ -3,11 +3,12 @@ ghost use Rattle.std.specs.Prelude.{◌≡◌};
 ghost use Rattle.js_tree.specs.declared.tree.Expr.{out-Expr};
 ghost use Rattle.js_tree.specs.Levels.{kind_rank, kind_target};
 ghost use Rattle.js_tree.specs.Spelling.{expr as seen};
+ghost use Rattle.js_tree.specs.Spelling.{function as seen_function};
 ghost use Rattle.js_tree.specs.Spelling.Chains.{ends_in_member, is_member as is_member_of};
 ghost use Rattle.js_tree.specs.Spelling.Nodes.{admits as takes};
 
 use crate::lists::Tail;
-use crate::tree::Expr;
+use crate::tree::{Expr, Function};
 use sqlite_items::Boxed;
 
 /// The levels of expressions, the weakest first.
@@ -65,7 +66,9 @@ fn rank(expr: &Expr) -> u32
             inner: _,
             close: _,
         } => 17,
-        Expr::Fun { function: _ } => 17,
+        Expr::Array { items: _ } => 17,
+        Expr::Object { properties: _ } => 17,
+        Expr::Fun { function } => function_rank(function.get()),
         Expr::Chain { head: _, tails: _ } => 17,
         Expr::New {
             word: _,
@@ -78,6 +81,30 @@ fn rank(expr: &Expr) -> u32
             dot: _,
             target: _,
         } => 17,
+    }
+}
+
+// The rank of a function.
+fn function_rank(function: &Function) -> u32
+    ensures { result ≡ (seen_function function.now).rank }
+{
+    match function {
+        Function::Keyword {
+            word: _,
+            name: _,
+            params: _,
+            body: _,
+        } => 20,
+        Function::Arrow {
+            params: _,
+            arrow: _,
+            value: _,
+        } => 1,
+        Function::ArrowBlock {
+            params: _,
+            arrow: _,
+            body: _,
+        } => 1,
     }
 }
 
@@ -117,6 +144,8 @@ fn is_place(expr: &Expr) -> bool
         Expr::This(_) => false,
         Expr::Literal(_) => false,
         Expr::Template(_) => false,
+        Expr::Array { items: _ } => false,
+        Expr::Object { properties: _ } => false,
         Expr::Fun { function: _ } => false,
         Expr::New {
             word: _,

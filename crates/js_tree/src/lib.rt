@@ -22,12 +22,12 @@ mod value;
 mod walk;
 
 pub use level::{Level, admits, is_target};
-pub use lists::{Arm, Block, Bracket, Element, Further, Init, Listed, Tail, Template};
+pub use lists::{Arm, ArrowParams, Block, Bracket, Element, Further, Init, Listed, Tail, Template};
 pub use node::{Node, push_parts};
 pub use part::{EscapePart, NumberPart, RegexPart, StringPart, TemplatePart, TriviaPart};
 pub use spelling::spell;
 pub use token::{Token, TokenClass};
 pub use token_kind::TokenKind;
-pub use tree::{Expr, Function, Pattern, Slot, Stmt, Tree};
+pub use tree::{Expr, Function, Key, Pattern, PatternProperty, Property, Slot, Stmt, Tree};
 pub use value::string_value;
 pub use walk::{Gather, walk_tree};

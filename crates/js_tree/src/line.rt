@@ -2,7 +2,7 @@
 ghost use Rattle.std.specs.Prelude.{◌≡◌, ◌++◌, ◌∷◌, [], map, OnOk};
 ghost use Rattle.js_tree.specs.Parts.{node_of};
 ghost use Rattle.js_tree.specs.Line.{AToken, ANode, item_of, line_of};
-ghost use Rattle.js_tree.specs.Parts.{AnExpr, AFunction, APattern, AStmt, ASlot, ATail};
+ghost use Rattle.js_tree.specs.Parts.{AnExpr, AFunction, AKey, APattern, APatternProperty, AProperty, AStmt, ASlot, ATail};
 ghost use Rattle.js_tree.specs.Line.{given_marks, items};
 ghost use Rattle.js_tree.specs.Spelling.Rows.{tail_row};
 
@@ -14,7 +14,7 @@ use crate::line_list::{
 use crate::lists::Tail;
 use crate::node::Node;
 use crate::token::Token;
-use crate::tree::{Expr, Function, Pattern, Slot, Stmt};
+use crate::tree::{Expr, Function, Key, Pattern, PatternProperty, Property, Slot, Stmt};
 use jam_base::OutOfMemory;
 use sqlite_items::Boxed;
 
@@ -34,7 +34,10 @@ pub fn push_line<'t>(node: Node<'t>, out: &mut Vec<LineItem<'t>>) -> Result<(), 
     match node {
         Node::Expr(value) => push_expr(value, out),
         Node::Function(function) => push_function(function, out),
+        Node::Key(key) => push_key(key, out),
         Node::Pattern(pattern) => push_pattern(pattern, out),
+        Node::PatternProperty(property) => push_pattern_property(property, out),
+        Node::Property(property) => push_property(property, out),
         Node::Stmt(statement) => push_stmt(statement, out),
         Node::Slot(slot) => push_slot(slot, out),
         Node::Tail {
@@ -59,6 +62,8 @@ fn push_expr<'t>(value: &'t Expr, out: &mut Vec<LineItem<'t>>) -> Result<(), Out
             push_node(Node::Expr(inner.get()), out)?;
             push_token(close, out)
         }
+        Expr::Array { items: _ } => Err(OutOfMemory),
+        Expr::Object { properties: _ } => Err(OutOfMemory),
         Expr::Fun { function } => push_node(Node::Function(function.get()), out),
         Expr::Chain { head, tails } => push_chain(head.get(), tails.as_slice(), out),
         Expr::New {
@@ -110,6 +115,16 @@ fn push_function<'t>(function: &'t Function, out: &mut Vec<LineItem<'t>>) -> Res
             params,
             body,
         } => push_keyword(word, name, params, body, out),
+        Function::Arrow {
+            params: _,
+            arrow: _,
+            value: _,
+        } => Err(OutOfMemory),
+        Function::ArrowBlock {
+            params: _,
+            arrow: _,
+            body: _,
+        } => Err(OutOfMemory),
     }
 }
 
@@ -123,6 +138,58 @@ fn push_pattern<'t>(pattern: &'t Pattern, out: &mut Vec<LineItem<'t>>) -> Result
             push_token(open, out)?;
             push_node(Node::Pattern(inner.get()), out)?;
             push_token(close, out)
+        }
+        Pattern::Array { slots: _ } => Err(OutOfMemory),
+        Pattern::Object { properties: _ } => Err(OutOfMemory),
+    }
+}
+
+fn push_key<'t>(key: &'t Key, out: &mut Vec<LineItem<'t>>) -> Result<(), OutOfMemory>
+    ensures { OnOk result (map item_of out.new.items ≡ map item_of out.old.items ++ line_of (AKey key.now)) }
+{
+    match key {
+        Key::Fixed(token) => push_token(token, out),
+        Key::Computed { open, value, close } => {
+            push_token(open, out)?;
+            push_node(Node::Expr(value.get()), out)?;
+            push_token(close, out)
+        }
+    }
+}
+
+fn push_property<'t>(property: &'t Property, out: &mut Vec<LineItem<'t>>) -> Result<(), OutOfMemory>
+    ensures { OnOk result (map item_of out.new.items ≡ map item_of out.old.items ++ line_of (AProperty property.now)) }
+{
+    match property {
+        Property::Pair { key, colon, value } => {
+            push_node(Node::Key(key), out)?;
+            push_token(colon, out)?;
+            push_node(Node::Expr(value.get()), out)
+        }
+        Property::Shorthand { value } => push_node(Node::Expr(value.get()), out),
+        Property::Spread { dots, value } => {
+            push_token(dots, out)?;
+            push_node(Node::Expr(value.get()), out)
+        }
+    }
+}
+
+fn push_pattern_property<'t>(
+    property: &'t PatternProperty,
+    out: &mut Vec<LineItem<'t>>,
+) -> Result<(), OutOfMemory>
+    ensures { OnOk result (map item_of out.new.items ≡ map item_of out.old.items ++ line_of (APatternProperty property.now)) }
+{
+    match property {
+        PatternProperty::Keyed { key, colon, slot } => {
+            push_node(Node::Key(key), out)?;
+            push_token(colon, out)?;
+            push_node(Node::Slot(slot), out)
+        }
+        PatternProperty::Named { slot } => push_node(Node::Slot(slot), out),
+        PatternProperty::Rest { dots, slot } => {
+            push_token(dots, out)?;
+            push_node(Node::Slot(slot), out)
         }
     }
 }

@@ -1,7 +1,7 @@
 //! The line of what stands in brackets.
 ghost use Rattle.std.specs.Prelude.{◌≡◌, ◌++◌, ◌∷◌, [], map, OnOk};
 ghost use Rattle.js_tree.specs.Line.{given_marks, item_of, items};
-ghost use Rattle.js_tree.specs.Spelling.Rows.{bracket_row, each_of, element_row, listed_row, maybe};
+ghost use Rattle.js_tree.specs.Spelling.Rows.{each_of, element_row, listed_row, maybe, round_row};
 
 use crate::line::{LineItem, push_node, push_token};
 use crate::line_list::push_possible;
@@ -13,10 +13,10 @@ use sqlite_items::Boxed;
 
 /// Adds arguments, where there are any.
 pub fn push_arguments<'t>(
-    args: &'t Option<Boxed<Bracket<Boxed<Expr>>>>,
+    args: &'t Option<Boxed<Bracket<Element<Boxed<Expr>>>>>,
     out: &mut Vec<LineItem<'t>>,
 ) -> Result<(), OutOfMemory>
-    ensures { OnOk result (map item_of out.new.items ≡ map item_of out.old.items ++ maybe (bracket_row given_marks items.expr) args.now []) }
+    ensures { OnOk result (map item_of out.new.items ≡ map item_of out.old.items ++ maybe (round_row given_marks items.expr) args.now []) }
 {
     match args {
         None => Ok(()),
@@ -26,10 +26,10 @@ pub fn push_arguments<'t>(
 
 /// Adds items in brackets.
 pub fn push_bracket<'t>(
-    bracket: &'t Bracket<Boxed<Expr>>,
+    bracket: &'t Bracket<Element<Boxed<Expr>>>,
     out: &mut Vec<LineItem<'t>>,
 ) -> Result<(), OutOfMemory>
-    ensures { OnOk result (map item_of out.new.items ≡ map item_of out.old.items ++ bracket_row given_marks items.expr bracket.now []) }
+    ensures { OnOk result (map item_of out.new.items ≡ map item_of out.old.items ++ round_row given_marks items.expr bracket.now []) }
 {
     push_token(&bracket.open, out)?;
     push_front(bracket.front.as_slice(), out)?;
@@ -87,10 +87,10 @@ pub fn push_element<'t>(
 
 /// Adds items in brackets.
 pub fn push_params<'t>(
-    bracket: &'t Bracket<Slot>,
+    bracket: &'t Bracket<Element<Slot>>,
     out: &mut Vec<LineItem<'t>>,
 ) -> Result<(), OutOfMemory>
-    ensures { OnOk result (map item_of out.new.items ≡ map item_of out.old.items ++ bracket_row given_marks items.slot bracket.now []) }
+    ensures { OnOk result (map item_of out.new.items ≡ map item_of out.old.items ++ round_row given_marks items.slot bracket.now []) }
 {
     push_token(&bracket.open, out)?;
     push_front_slots(bracket.front.as_slice(), out)?;

@@ -2,11 +2,11 @@
 ghost use Rattle.std.specs.Prelude.{◌≡◌, ◌++◌, ◌∷◌, [], map, OnOk};
 ghost use Rattle.js_tree.specs.Parts.{AnExpr, ASlot};
 ghost use Rattle.js_tree.specs.Line.{AToken, ANode, given_marks, item_of, items, possible, tail_items};
-ghost use Rattle.js_tree.specs.Spelling.Rows.{arm_row, bracket_row, each_of, init_row, listed_row, maybe, template_row};
+ghost use Rattle.js_tree.specs.Spelling.Rows.{arm_row, each_of, init_row, listed_row, maybe, round_row, template_row};
 
 use crate::line::{LineItem, push_node, push_token};
 use crate::line_bracket::{push_arguments, push_params};
-use crate::lists::{Arm, Block, Bracket, Further, Init, Listed, Tail, Template};
+use crate::lists::{Arm, Block, Bracket, Element, Further, Init, Listed, Tail, Template};
 use crate::node::Node;
 use crate::token::Token;
 use crate::tree::{Expr, Slot, Stmt};
@@ -18,10 +18,10 @@ pub fn push_new<'t>(
     word: &'t Token,
     head: &'t Expr,
     tails: &'t [Tail<Boxed<Expr>>],
-    args: &'t Option<Boxed<Bracket<Boxed<Expr>>>>,
+    args: &'t Option<Boxed<Bracket<Element<Boxed<Expr>>>>>,
     out: &mut Vec<LineItem<'t>>,
 ) -> Result<(), OutOfMemory>
-    ensures { OnOk result (map item_of out.new.items ≡ map item_of out.old.items ++ AToken word.now ∷ ANode (AnExpr head.now) ∷ tail_items head.now [] tails.now (maybe (bracket_row given_marks items.expr) args.now [])) }
+    ensures { OnOk result (map item_of out.new.items ≡ map item_of out.old.items ++ AToken word.now ∷ ANode (AnExpr head.now) ∷ tail_items head.now [] tails.now (maybe (round_row given_marks items.expr) args.now [])) }
 {
     push_token(word, out)?;
     push_chain(head, tails, out)?;
@@ -44,11 +44,11 @@ pub fn push_choice<'t>(
 pub fn push_keyword<'t>(
     word: &'t Token,
     name: &'t Option<Token>,
-    params: &'t Bracket<Slot>,
+    params: &'t Bracket<Element<Slot>>,
     body: &'t Block<Stmt>,
     out: &mut Vec<LineItem<'t>>,
 ) -> Result<(), OutOfMemory>
-    ensures { OnOk result (map item_of out.new.items ≡ map item_of out.old.items ++ AToken word.now ∷ possible name.now (bracket_row given_marks items.slot params.now (AToken body.now.begin ∷ each_of items.stmt body.now.body (AToken body.now.end ∷ [])))) }
+    ensures { OnOk result (map item_of out.new.items ≡ map item_of out.old.items ++ AToken word.now ∷ possible name.now (round_row given_marks items.slot params.now (AToken body.now.begin ∷ each_of items.stmt body.now.body (AToken body.now.end ∷ [])))) }
 {
     push_token(word, out)?;
     push_possible(name, out)?;

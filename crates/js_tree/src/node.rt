@@ -1,6 +1,6 @@
 //! Nodes of any kind, and their parts.
 ghost use Rattle.std.specs.Prelude.{◌≡◌, ◌++◌, ◌∷◌, [], map, OnOk};
-ghost use Rattle.js_tree.specs.Parts.{AnExpr, AFunction, APattern, AStmt, ASlot, node_of, nodes, parts};
+ghost use Rattle.js_tree.specs.Parts.{AnExpr, AFunction, AKey, APattern, APatternProperty, AProperty, AStmt, ASlot, node_of, nodes, parts};
 ghost use Rattle.js_tree.specs.Spelling.Rows.{tail_row};
 ghost use Rattle.js_tree.specs.Spelling.Nodes.{unmarked};
 
@@ -9,7 +9,7 @@ use crate::node_list::{
     push_bracket, push_chain, push_choice, push_further_slots, push_keyword, push_new,
     push_several, push_stmts, push_template, push_two, push_value,
 };
-use crate::tree::{Expr, Function, Pattern, Slot, Stmt};
+use crate::tree::{Expr, Function, Key, Pattern, PatternProperty, Property, Slot, Stmt};
 use jam_base::OutOfMemory;
 use sqlite_items::Boxed;
 
@@ -20,8 +20,14 @@ pub enum Node<'t> {
     Expr(&'t Expr),
     /// A function.
     Function(&'t Function),
+    /// A key.
+    Key(&'t Key),
     /// A pattern.
     Pattern(&'t Pattern),
+    /// A property in a pattern.
+    PatternProperty(&'t PatternProperty),
+    /// A property of an object.
+    Property(&'t Property),
     /// A statement.
     Stmt(&'t Stmt),
     /// A slot.
@@ -46,7 +52,10 @@ pub fn push_parts<'t>(node: Node<'t>, out: &mut Vec<Node<'t>>) -> Result<(), Out
     match node {
         Node::Expr(value) => push_expr_parts(value, out),
         Node::Function(function) => push_function_parts(function, out),
+        Node::Key(key) => push_key_parts(key, out),
         Node::Pattern(pattern) => push_pattern_parts(pattern, out),
+        Node::PatternProperty(property) => push_pattern_property_parts(property, out),
+        Node::Property(property) => push_property_parts(property, out),
         Node::Stmt(statement) => push_stmt_parts(statement, out),
         Node::Slot(slot) => push_slot_parts(slot, out),
         Node::Tail {
@@ -71,6 +80,8 @@ fn push_expr_parts<'t>(value: &'t Expr, out: &mut Vec<Node<'t>>) -> Result<(), O
             inner,
             close: _,
         } => push(Node::Expr(inner.get()), out),
+        Expr::Array { items: _ } => Err(OutOfMemory),
+        Expr::Object { properties: _ } => Err(OutOfMemory),
         Expr::Fun { function } => push(Node::Function(function.get()), out),
         Expr::Chain { head, tails } => push_chain(head.get(), tails.as_slice(), out),
         Expr::New {
@@ -119,6 +130,16 @@ fn push_function_parts<'t>(
             params,
             body,
         } => push_keyword(params, body.body.as_slice(), out),
+        Function::Arrow {
+            params: _,
+            arrow: _,
+            value: _,
+        } => Err(OutOfMemory),
+        Function::ArrowBlock {
+            params: _,
+            arrow: _,
+            body: _,
+        } => Err(OutOfMemory),
     }
 }
 
@@ -133,6 +154,55 @@ fn push_pattern_parts<'t>(pattern: &'t Pattern, out: &mut Vec<Node<'t>>) -> Resu
             inner,
             close: _,
         } => push(Node::Pattern(inner.get()), out),
+        Pattern::Array { slots: _ } => Err(OutOfMemory),
+        Pattern::Object { properties: _ } => Err(OutOfMemory),
+    }
+}
+
+fn push_key_parts<'t>(key: &'t Key, out: &mut Vec<Node<'t>>) -> Result<(), OutOfMemory>
+    ensures { OnOk result (map node_of out.new.items ≡ map node_of out.old.items ++ parts (AKey key.now)) }
+{
+    match key {
+        Key::Fixed(_) => Ok(()),
+        Key::Computed {
+            open: _,
+            value,
+            close: _,
+        } => push(Node::Expr(value.get()), out),
+    }
+}
+
+fn push_property_parts<'t>(
+    property: &'t Property,
+    out: &mut Vec<Node<'t>>,
+) -> Result<(), OutOfMemory>
+    ensures { OnOk result (map node_of out.new.items ≡ map node_of out.old.items ++ parts (AProperty property.now)) }
+{
+    match property {
+        Property::Pair {
+            key,
+            colon: _,
+            value,
+        } => push_two(Node::Key(key), Node::Expr(value.get()), out),
+        Property::Shorthand { value } => push(Node::Expr(value.get()), out),
+        Property::Spread { dots: _, value } => push(Node::Expr(value.get()), out),
+    }
+}
+
+fn push_pattern_property_parts<'t>(
+    property: &'t PatternProperty,
+    out: &mut Vec<Node<'t>>,
+) -> Result<(), OutOfMemory>
+    ensures { OnOk result (map node_of out.new.items ≡ map node_of out.old.items ++ parts (APatternProperty property.now)) }
+{
+    match property {
+        PatternProperty::Keyed {
+            key,
+            colon: _,
+            slot,
+        } => push_two(Node::Key(key), Node::Slot(slot), out),
+        PatternProperty::Named { slot } => push(Node::Slot(slot), out),
+        PatternProperty::Rest { dots: _, slot } => push(Node::Slot(slot), out),
     }
 }
 

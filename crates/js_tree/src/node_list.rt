@@ -1,7 +1,7 @@
 //! The parts of a node that stand in lists, or may be missing.
 ghost use Rattle.std.specs.Prelude.{◌≡◌, ◌++◌, ◌∷◌, [], map, OnOk};
 ghost use Rattle.js_tree.specs.Parts.{AnExpr, ASlot, node_of, nodes, tails_behind};
-ghost use Rattle.js_tree.specs.Spelling.Rows.{each_of, maybe, bracket_row, template_row};
+ghost use Rattle.js_tree.specs.Spelling.Rows.{each_of, maybe, round_row, template_row};
 ghost use Rattle.js_tree.specs.Spelling.Nodes.{unmarked};
 
 use crate::lists::{Arm, Bracket, Element, Further, Listed, Tail, Template};
@@ -26,10 +26,10 @@ pub fn push_two<'t>(
 pub fn push_new<'t>(
     head: &'t Expr,
     tails: &'t [Tail<Boxed<Expr>>],
-    args: &'t Option<Boxed<Bracket<Boxed<Expr>>>>,
+    args: &'t Option<Boxed<Bracket<Element<Boxed<Expr>>>>>,
     out: &mut Vec<Node<'t>>,
 ) -> Result<(), OutOfMemory>
-    ensures { OnOk result (map node_of out.new.items ≡ map node_of out.old.items ++ AnExpr head.now ∷ tails_behind head.now [] tails.now (maybe (bracket_row unmarked nodes.expr) args.now [])) }
+    ensures { OnOk result (map node_of out.new.items ≡ map node_of out.old.items ++ AnExpr head.now ∷ tails_behind head.now [] tails.now (maybe (round_row unmarked nodes.expr) args.now [])) }
 {
     push_chain(head, tails, out)?;
     push_arguments(args, out)
@@ -59,11 +59,11 @@ pub fn push_template<'t>(
 
 /// Adds the parameters and the body of a function.
 pub fn push_keyword<'t>(
-    params: &'t Bracket<Slot>,
+    params: &'t Bracket<Element<Slot>>,
     body: &'t [Stmt],
     out: &mut Vec<Node<'t>>,
 ) -> Result<(), OutOfMemory>
-    ensures { OnOk result (map node_of out.new.items ≡ map node_of out.old.items ++ bracket_row unmarked nodes.slot params.now (each_of nodes.stmt body.now [])) }
+    ensures { OnOk result (map node_of out.new.items ≡ map node_of out.old.items ++ round_row unmarked nodes.slot params.now (each_of nodes.stmt body.now [])) }
 {
     push_params(params, out)?;
     push_stmts(body, out)
@@ -187,10 +187,10 @@ pub fn push_substitutions<'t>(
 
 /// Adds arguments, where there are any.
 pub fn push_arguments<'t>(
-    args: &'t Option<Boxed<Bracket<Boxed<Expr>>>>,
+    args: &'t Option<Boxed<Bracket<Element<Boxed<Expr>>>>>,
     out: &mut Vec<Node<'t>>,
 ) -> Result<(), OutOfMemory>
-    ensures { OnOk result (map node_of out.new.items ≡ map node_of out.old.items ++ maybe (bracket_row unmarked nodes.expr) args.now []) }
+    ensures { OnOk result (map node_of out.new.items ≡ map node_of out.old.items ++ maybe (round_row unmarked nodes.expr) args.now []) }
 {
     match args {
         None => Ok(()),
@@ -200,10 +200,10 @@ pub fn push_arguments<'t>(
 
 /// Adds the items in brackets.
 pub fn push_bracket<'t>(
-    bracket: &'t Bracket<Boxed<Expr>>,
+    bracket: &'t Bracket<Element<Boxed<Expr>>>,
     out: &mut Vec<Node<'t>>,
 ) -> Result<(), OutOfMemory>
-    ensures { OnOk result (map node_of out.new.items ≡ map node_of out.old.items ++ bracket_row unmarked nodes.expr bracket.now []) }
+    ensures { OnOk result (map node_of out.new.items ≡ map node_of out.old.items ++ round_row unmarked nodes.expr bracket.now []) }
 {
     push_front(bracket.front.as_slice(), out)?;
     push_last(&bracket.last, out)
@@ -237,10 +237,10 @@ pub fn push_last<'t>(
 
 /// Adds the items in brackets.
 pub fn push_params<'t>(
-    bracket: &'t Bracket<Slot>,
+    bracket: &'t Bracket<Element<Slot>>,
     out: &mut Vec<Node<'t>>,
 ) -> Result<(), OutOfMemory>
-    ensures { OnOk result (map node_of out.new.items ≡ map node_of out.old.items ++ bracket_row unmarked nodes.slot bracket.now []) }
+    ensures { OnOk result (map node_of out.new.items ≡ map node_of out.old.items ++ round_row unmarked nodes.slot bracket.now []) }
 {
     push_front_slots(bracket.front.as_slice(), out)?;
     push_last_slot(&bracket.last, out)
