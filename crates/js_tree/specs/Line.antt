@@ -2,6 +2,7 @@
 use Rattle.std.specs.Prelude.{ℕ, ◌+◌, List, [], ◌∷◌, ◌++◌, length, Option}
 use Rattle.js_tree.specs.declared.line.LineItem.{LineItem as Given}
 use Rattle.js_tree.specs.declared.line.LineItem.TheVariants as given
+use Rattle.js_tree.specs.declared.lists.Bracket.{Bracket}
 use Rattle.js_tree.specs.declared.lists.Tail.{Tail}
 use Rattle.js_tree.specs.declared.token.Token.{Token}
 use Rattle.js_tree.specs.declared.tree.Expr.{Expr, out-Expr}
@@ -19,7 +20,7 @@ use Rattle.js_tree.specs.Spelling.Expressions.{expr_row}
 use Rattle.js_tree.specs.Spelling.Functions.{function_row}
 use Rattle.js_tree.specs.Spelling.Patterns.{pattern_row, pattern_property_row, slot_row}
 use Rattle.js_tree.specs.Spelling.Properties.{key_row, property_row}
-use Rattle.js_tree.specs.Spelling.Rows.{Marks, each_of, maybe, tail_row}
+use Rattle.js_tree.specs.Spelling.Rows.{Marks, each_of, listed_row, maybe, tail_row}
 use Rattle.js_tree.specs.Spelling.Nodes.{pieces}
 use Rattle.js_tree.specs.Spelling.Statements.{stmt_row}
 
@@ -60,18 +61,26 @@ items = record {
   tails = λ head. tail_items head [];
 }
 
+-- items in brackets of any kind
+abbrev pub in_brackets : {I : Type 0} → (I → List LineItem → List LineItem) → Bracket I → List LineItem → List LineItem
+in_brackets put b rest = AToken b.open ∷ each_of (listed_row given_marks put) b.front (maybe put b.last (AToken b.close ∷ rest))
+
+-- the line of a node, in front of other items
+abbrev pub line_row : Node → List LineItem → List LineItem
+line_row (AnExpr x) = expr_row items (out-Expr x)
+line_row (AFunction x) = function_row items (out-Function x)
+line_row (AKey x) = key_row items (out-Key x)
+line_row (APattern x) = pattern_row items (out-Pattern x)
+line_row (APatternProperty x) = pattern_property_row items (out-PatternProperty x)
+line_row (AProperty x) = property_row items (out-Property x)
+line_row (AStmt x) = stmt_row items (out-Stmt x)
+line_row (ASlot x) = slot_row items (out-Slot x)
+line_row (ATail head before t) = tail_row given_marks items.expr t
+line_row (ABody body) = each_of items.stmt body
+
 -- the line of a node
 abbrev pub line_of : Node → List LineItem
-line_of (AnExpr x) = expr_row items (out-Expr x) []
-line_of (AFunction x) = function_row items (out-Function x) []
-line_of (AKey x) = key_row items (out-Key x) []
-line_of (APattern x) = pattern_row items (out-Pattern x) []
-line_of (APatternProperty x) = pattern_property_row items (out-PatternProperty x) []
-line_of (AProperty x) = property_row items (out-Property x) []
-line_of (AStmt x) = stmt_row items (out-Stmt x) []
-line_of (ASlot x) = slot_row items (out-Slot x) []
-line_of (ATail head before t) = tail_row given_marks items.expr t []
-line_of (ABody body) = each_of items.stmt body []
+line_of n = line_row n []
 
 -- the spelling of an expression as it stands in a tail
 abbrev pub expr_line : Expr → Onto

@@ -75,18 +75,22 @@ nodes = record {
   tails = λ head. tails_behind head [];
 }
 
+-- the parts of a node, in front of other nodes
+abbrev pub parts_row : Node → List Node → List Node
+parts_row (AnExpr x) = expr_row nodes (out-Expr x)
+parts_row (AFunction x) = function_row nodes (out-Function x)
+parts_row (AKey x) = key_row nodes (out-Key x)
+parts_row (APattern x) = pattern_row nodes (out-Pattern x)
+parts_row (APatternProperty x) = pattern_property_row nodes (out-PatternProperty x)
+parts_row (AProperty x) = property_row nodes (out-Property x)
+parts_row (AStmt x) = stmt_row nodes (out-Stmt x)
+parts_row (ASlot x) = slot_row nodes (out-Slot x)
+parts_row (ATail head before t) = tail_row unmarked nodes.expr t
+parts_row (ABody body) = each_of nodes.stmt body
+
 -- the parts of a node
 abbrev pub parts : Node → List Node
-parts (AnExpr x) = expr_row nodes (out-Expr x) []
-parts (AFunction x) = function_row nodes (out-Function x) []
-parts (AKey x) = key_row nodes (out-Key x) []
-parts (APattern x) = pattern_row nodes (out-Pattern x) []
-parts (APatternProperty x) = pattern_property_row nodes (out-PatternProperty x) []
-parts (AProperty x) = property_row nodes (out-Property x) []
-parts (AStmt x) = stmt_row nodes (out-Stmt x) []
-parts (ASlot x) = slot_row nodes (out-Slot x) []
-parts (ATail head before t) = tail_row unmarked nodes.expr t []
-parts (ABody body) = each_of nodes.stmt body []
+parts n = parts_row n []
 
 -- the greatest of the heights in a row
 abbrev pub greatest : WriterOf ℕ ℕ

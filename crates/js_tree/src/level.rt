@@ -1,9 +1,9 @@
 //! Which expressions stand where, and which may be assigned to.
 ghost use Rattle.std.specs.Prelude.{◌≡◌};
 ghost use Rattle.js_tree.specs.declared.tree.Expr.{out-Expr};
-ghost use Rattle.js_tree.specs.Levels.{kind_rank, kind_target};
+ghost use Rattle.js_tree.specs.Levels.{function_kind_rank, kind_rank, kind_target};
 ghost use Rattle.js_tree.specs.Spelling.{expr as seen};
-ghost use Rattle.js_tree.specs.Spelling.{function as seen_function};
+ghost use Rattle.js_tree.specs.declared.tree.Function.{out-Function};
 ghost use Rattle.js_tree.specs.Spelling.Chains.{ends_in_member, is_member as is_member_of};
 ghost use Rattle.js_tree.specs.Spelling.Nodes.{admits as takes};
 
@@ -86,7 +86,7 @@ fn rank(expr: &Expr) -> u32
 
 // The rank of a function.
 fn function_rank(function: &Function) -> u32
-    ensures { result ≡ (seen_function function.now).rank }
+    ensures { result ≡ function_kind_rank (out-Function function.now) }
 {
     match function {
         Function::Keyword {

@@ -6,13 +6,12 @@
 #![tactic(auto)]
 
 mod escape;
+mod in_line;
+mod in_node;
 mod level;
 mod line;
-mod line_bracket;
-mod line_list;
 mod lists;
 mod node;
-mod node_list;
 mod part;
 mod spelling;
 mod token;
