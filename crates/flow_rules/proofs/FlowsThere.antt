@@ -4,7 +4,7 @@ use Rattle.std.specs.Prelude.{Contains}
 use Rattle.std.specs.List.{AllByRecursion, flat_map}
 use Rattle.js_tree.specs.declared.lists.Arm.{Arm}
 use Rattle.js_tree.specs.declared.lists.ArrowParams.{ArrowParams}
-use Rattle.js_tree.specs.declared.lists.ArrowParams.TheVariants as params
+use Rattle.js_tree.specs.declared.lists.ArrowParams.TheVariants as shape
 use Rattle.js_tree.specs.declared.lists.Bracket.{Bracket}
 use Rattle.js_tree.specs.declared.lists.Element.{Element}
 use Rattle.js_tree.specs.declared.lists.Further.{Further}
@@ -231,12 +231,12 @@ module _ (tree : Tree) (h : IsInText (ABody tree.body)) where
   stmt_flow _ k lt i = tt
 
   slots_at : (ps : ArrowParams Slot) (rest : List Node) → AllByRecursion In (arrow_params_row unmarked nodes.slot ps rest) → AllByRecursion (λ s. In (ASlot s)) (arrow_slots ps)
-  slots_at (params.Bare x) rest i = (i.0, tt)
-  slots_at (params.Round b) rest i = placed_have In ASlot (elements b) (elements_have In ASlot b rest i)
+  slots_at (shape.Bare x) rest i = (i.0, tt)
+  slots_at (shape.Round b) rest i = placed_have In ASlot (elements b) (elements_have In ASlot b rest i)
 
   behind_params : (ps : ArrowParams Slot) (rest : List Node) → AllByRecursion In (arrow_params_row unmarked nodes.slot ps rest) → AllByRecursion In rest
-  behind_params (params.Bare x) rest i = i.1
-  behind_params (params.Round b) rest i = behind_bracket In ASlot b rest i
+  behind_params (shape.Bare x) rest i = i.1
+  behind_params (shape.Round b) rest i = behind_bracket In ASlot b rest i
 
   params_at : (l : FunctionLayer) → AllByRecursion In (function_row nodes l []) → AllByRecursion (λ s. In (ASlot s)) (params_in l)
   params_at (Function-F.Keyword word name ps b) i = placed_have In ASlot (elements ps) (elements_have In ASlot ps (each_of nodes.stmt b.body []) i)

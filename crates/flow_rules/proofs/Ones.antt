@@ -12,7 +12,7 @@ use Rattle.std.proofs.lemmas.List.Elements.{All-contains_itself, recursion_from_
 use Rattle.std.proofs.lemmas.List.Sums.{count_by-le-length, sum_by-cons}
 use Rattle.js_tree.specs.declared.token.Token.{Token}
 use Rattle.js_tree.specs.declared.lists.ArrowParams.{ArrowParams}
-use Rattle.js_tree.specs.declared.lists.ArrowParams.TheVariants as params
+use Rattle.js_tree.specs.declared.lists.ArrowParams.TheVariants as shape
 use Rattle.js_tree.specs.declared.lists.Tail.TheVariants as tail
 use Rattle.js_tree.specs.declared.tree.Expr.{out-Expr}
 use Rattle.js_tree.specs.declared.tree.Expr.TheOpen.{Expr-F, Function-F, Pattern-F}
@@ -252,7 +252,7 @@ pattern_leaves offset (Pattern-F.«Pattern::Object» properties) = omega arith
 -- an arrow begins with the name that is its only parameter, or with a token of its own
 begins_once : (offset : ℕ) (ps : ArrowParams Slot) (arrow : Token) (rest : List LineItem) (ns : List Node)
     → counts_at offset (first_token ps arrow) ≤ count_by (λ (t : Token). t.start == offset) (tokens_among (arrow_params_row given_marks items.slot ps (AToken arrow ∷ rest))) + sum_by (names_left offset) (arrow_params_row unmarked nodes.slot ps ns)
-begins_once offset (params.Bare x) arrow rest ns = by (out-Pattern (out-Slot x).target) refl
+begins_once offset (shape.Bare x) arrow rest ns = by (out-Pattern (out-Slot x).target) refl
   where
     by : (l : PatternLayer) → out-Pattern (out-Slot x).target ≡ l
         → counts_at offset (name_token (out-Pattern (out-Slot x).target) arrow) ≤ count_by (λ (t : Token). t.start == offset) (tokens_among (AToken arrow ∷ rest)) + sum_by (names_left offset) (ASlot x ∷ ns)
@@ -269,8 +269,8 @@ begins_once offset (params.Bare x) arrow rest ns = by (out-Pattern (out-Slot x).
     other : counts_at offset (name_token (out-Pattern (out-Slot x).target) arrow) ≡ counts_at offset arrow
         → counts_at offset (name_token (out-Pattern (out-Slot x).target) arrow) ≤ count_by (λ (t : Token). t.start == offset) (tokens_among (AToken arrow ∷ rest)) + sum_by (names_left offset) (ASlot x ∷ ns)
     other e = let a = first_counts offset arrow (tokens_among (AToken arrow ∷ rest)) _ refl in omega (arith, e, a)
-begins_once offset (params.Round b) arrow rest ns =
-    let a = first_counts offset b.«open» (tokens_among (arrow_params_row given_marks items.slot (params.Round b) (AToken arrow ∷ rest))) _ refl in omega (arith, a)
+begins_once offset (shape.Round b) arrow rest ns =
+    let a = first_counts offset b.«open» (tokens_among (arrow_params_row given_marks items.slot (shape.Round b) (AToken arrow ∷ rest))) _ refl in omega (arith, a)
 
 function_once : (offset : ℕ) (l : FunctionLayer) (given : Option Token)
     → count_by (starts_at offset) (info_in l given ∷ []) + 0 ≤ count_by (λ (t : Token). t.start == offset) (tokens_among (function_row items l [])) + sum_by (names_left offset) (function_row nodes l [])

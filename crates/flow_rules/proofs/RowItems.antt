@@ -1,9 +1,11 @@
 -- What holds of the nodes of a row holds of its items, and the other way round.
 use Rattle.std.proofs.Common.{◌≡◌, ℕ, ◌+◌, ◌<◌, length, take, get_or, sym, ap, ◌∙◌, append_assoc, Bool, true, false, List, [], ◌∷◌, ◌++◌, map, Option, Some, None, is_some, if◌then◌else◌}
 use Rattle.std.specs.List.{AllByRecursion, flat_map}
+use Rattle.std.proofs.lemmas.Grind.{flat_map-append}
 use Rattle.std.proofs.lemmas.List.{map-append, take_more}
+use Rattle.std.proofs.lemmas.List.Folds.{flat_map-map}
 use Rattle.js_tree.specs.declared.lists.ArrowParams.{ArrowParams}
-use Rattle.js_tree.specs.declared.lists.ArrowParams.TheVariants as params
+use Rattle.js_tree.specs.declared.lists.ArrowParams.TheVariants as shape
 use Rattle.js_tree.specs.declared.lists.Bracket.{Bracket}
 use Rattle.js_tree.specs.declared.lists.Element.{Element}
 use Rattle.js_tree.specs.declared.lists.Listed.{Listed}
@@ -22,6 +24,13 @@ pub more_made : {X Y : Type 0} (f : X → Y) (old : List Y) (xs : List X) (i : �
 more_made f old xs i d within mid new y before now is =
     now ∙ (λ j. before j ++ is j ∷ []) ∙ append_assoc old (map f (take i xs)) (f (get_or xs i d) ∷ [])
     ∙ ap (λ ys. old ++ ys) (sym (ap (map f) (take_more xs i d within) ∙ map-append f (take i xs) (get_or xs i d ∷ [])))
+
+-- what is made of the items in brackets, of those with a comma first
+pub elements_made : {I Y : Type 0} (f : I → List Y) (b : Bracket I) (old mid new : List Y) → mid ≡ old ++ flat_map (λ (x : Listed I). f x.item) b.front → new ≡ mid ++ flat_map f (listed b.last) → new ≡ old ++ flat_map f (elements b)
+elements_made f b old mid new first last =
+    last ∙ ap (λ ys. ys ++ flat_map f (listed b.last)) (first ∙ ap (λ ys. old ++ ys) (sym (flat_map-map f (λ (x : Listed _). x.item) b.front)))
+    ∙ append_assoc old (flat_map f (map (λ (x : Listed _). x.item) b.front)) (flat_map f (listed b.last))
+    ∙ ap (λ ys. old ++ ys) (sym (flat_map-append f (map (λ (x : Listed _). x.item) b.front) (listed b.last)))
 
 -- what is made of items has what each gives
 module _ {X Y : Type 0} (P : X → Type 0) (Q : Y → Type 0) where
@@ -116,8 +125,8 @@ module _ (P : Node → Type 0) where
       object_has = bracket_nodes put (λ x rest a. (each x, a)) kind.LeftBrace kind.RightBrace
 
       pub arrow_params_has : (ps : ArrowParams X) (rest : List Node) → AllByRecursion P rest → AllByRecursion P (arrow_params_row unmarked put ps rest)
-      arrow_params_has (params.Bare x) rest a = (each x, a)
-      arrow_params_has (params.Round b) rest a = bracket_has b rest a
+      arrow_params_has (shape.Bare x) rest a = (each x, a)
+      arrow_params_has (shape.Round b) rest a = bracket_has b rest a
 
   -- of the substitutions of a template
   pub substitutions_have : (xs : List (Listed Expr)) (rest : List Node) → AllByRecursion P (template_parts unmarked nodes.expr xs rest) → AllByRecursion (λ (x : Listed Expr). P (AnExpr x.item)) xs

@@ -2,7 +2,7 @@
 use Rattle.std.proofs.Common.{◌≡◌, ℕ, ◌+◌, ◌*◌, ◌<◌, ◌≤◌, List, [], ◌∷◌, ◌++◌, map, length, length-append, refl, ap, arith, Option, Some, None}
 use Rattle.std.proofs.lemmas.List.{length-map}
 use Rattle.js_tree.specs.declared.lists.ArrowParams.{ArrowParams}
-use Rattle.js_tree.specs.declared.lists.ArrowParams.TheVariants as params
+use Rattle.js_tree.specs.declared.lists.ArrowParams.TheVariants as shape
 use Rattle.js_tree.specs.declared.lists.Block.{Block}
 use Rattle.js_tree.specs.declared.lists.Bracket.{Bracket}
 use Rattle.js_tree.specs.declared.lists.Element.{Element}
@@ -114,8 +114,8 @@ made_owned word head tails (Some b) =
 
 -- the name of a function without brackets has no token of the function's own
 arrow_owned : (ps : ArrowParams Slot) (rest : List LineItem) → 1 ≤ tokens rest → length (arrow_slots ps) + 1 ≤ 2 * tokens (arrow_params_row given_marks items.slot ps rest)
-arrow_owned (params.Bare x) rest some = omega (arith, some)
-arrow_owned (params.Round b) rest some =
+arrow_owned (shape.Bare x) rest some = omega (arith, some)
+arrow_owned (shape.Round b) rest some =
     let a = round_tokens items.slot (λ x more. refl) b rest in
     let c = placed_few (elements b) in
     omega (arith, a, c)

@@ -3,7 +3,7 @@ use Rattle.std.specs.Prelude.{ℕ, List, [], ◌∷◌, length, Option, Some, No
 use Rattle.std.specs.Option.{unwrap_or}
 use Rattle.std.specs.Str.{bytes_eq}
 use Rattle.js_tree.specs.declared.lists.ArrowParams.{ArrowParams}
-use Rattle.js_tree.specs.declared.lists.ArrowParams.TheVariants as params
+use Rattle.js_tree.specs.declared.lists.ArrowParams.TheVariants as shape
 use Rattle.js_tree.specs.declared.lists.Tail.{Tail}
 use Rattle.js_tree.specs.declared.lists.Tail.TheVariants as tail
 use Rattle.js_tree.specs.declared.token.Token.{Token}
@@ -30,13 +30,13 @@ name_token _ other = other
 
 -- the first token of an arrow: its name, or the `(` of its parameters
 abbrev pub first_token : ArrowParams Slot → Token → Token
-first_token (params.Bare x) arrow = name_token (out-Pattern (out-Slot x).target) arrow
-first_token (params.Round b) arrow = b.open
+first_token (shape.Bare x) arrow = name_token (out-Pattern (out-Slot x).target) arrow
+first_token (shape.Round b) arrow = b.open
 
 -- the parameters of an arrow but the rest
 abbrev pub arrow_slots : ArrowParams Slot → List Slot
-arrow_slots (params.Bare x) = x ∷ []
-arrow_slots (params.Round b) = placed (elements b)
+arrow_slots (shape.Bare x) = x ∷ []
+arrow_slots (shape.Round b) = placed (elements b)
 
 -- the function's first token, its own name, and its parameters but the rest
 abbrev pub start_in : FunctionLayer → ℕ
@@ -55,8 +55,8 @@ params_in (Function-F.ArrowBlock ps arrow body) = arrow_slots ps
 
 -- the function has a rest parameter
 abbrev pub arrow_rests : ArrowParams Slot → Bool
-arrow_rests (params.Bare x) = false
-arrow_rests (params.Round b) = has_spread (elements b)
+arrow_rests (shape.Bare x) = false
+arrow_rests (shape.Round b) = has_spread (elements b)
 
 abbrev pub has_rest : FunctionLayer → Bool
 has_rest (Function-F.Keyword word name ps body) = has_spread (elements ps)

@@ -3,7 +3,7 @@ use Rattle.std.proofs.Common.{◌≡◌, ℕ, ◌+◌, ◌<◌, List, [], ◌∷
 use Rattle.std.proofs.Math.Seq.{drop-cons}
 use Rattle.std.proofs.lemmas.List.{take_more}
 use Rattle.js_tree.specs.declared.lists.ArrowParams.{ArrowParams}
-use Rattle.js_tree.specs.declared.lists.ArrowParams.TheVariants as params
+use Rattle.js_tree.specs.declared.lists.ArrowParams.TheVariants as shape
 use Rattle.js_tree.specs.declared.lists.Block.{Block}
 use Rattle.js_tree.specs.declared.lists.Bracket.{Bracket}
 use Rattle.js_tree.specs.declared.lists.Element.{Element}
@@ -95,8 +95,8 @@ module _ {X Y R : Type 0} (m : Marks R) (put : Y → R → R) (f : X → Y) wher
   array_map = bracket_over m kind.LeftBracket kind.RightBracket (item_row m put) (item_row m (λ x. put (f x))) (map_maybe (map_element f)) item_map
 
   pub params_map : (ps : ArrowParams X) (rest : R) → arrow_params_row m put (map_params f ps) rest ≡ arrow_params_row m (λ x. put (f x)) ps rest
-  params_map (params.Bare x) rest = refl
-  params_map (params.Round b) rest = round_map b rest
+  params_map (shape.Bare x) rest = refl
+  params_map (shape.Round b) rest = round_map b rest
 
   pub args_map : (o : Option (Bracket (Element X))) (rest : R) → maybe (round_row m put) (map_maybe (map_round f) o) rest ≡ maybe (round_row m (λ x. put (f x))) o rest
   args_map = maybe_over (round_row m put) (round_row m (λ x. put (f x))) (map_round f) round_map

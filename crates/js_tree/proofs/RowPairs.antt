@@ -3,7 +3,7 @@ use Rattle.std.proofs.Common.{Bool, List, [], ◌∷◌, Option, Some, None}
 use Rattle.std.specs.List.{AllByRecursion}
 use Rattle.js_tree.specs.declared.lists.Arm.{Arm}
 use Rattle.js_tree.specs.declared.lists.ArrowParams.{ArrowParams}
-use Rattle.js_tree.specs.declared.lists.ArrowParams.TheVariants as params
+use Rattle.js_tree.specs.declared.lists.ArrowParams.TheVariants as shape
 use Rattle.js_tree.specs.declared.lists.Block.{Block}
 use Rattle.js_tree.specs.declared.lists.Bracket.{Bracket}
 use Rattle.js_tree.specs.declared.lists.Element.{Element}
@@ -204,8 +204,8 @@ module _ {R S : Type 0} (v : NodeWriter R) (w : NodeWriter S) (H : Node → Type
     rounds = record { put = round_row unm i.put; one = round_row v.marks i.one; two = round_row w.marks i.two; goes = λ x ns r s g. round x g }
 
     arrow_params : {ns : List Node} {r : R} {s : S} (b : ArrowParams X) → G ns r s → G (arrow_params_row unm i.put b ns) (arrow_params_row v.marks i.one b r) (arrow_params_row w.marks i.two b s)
-    arrow_params (params.Bare x) g = i.goes x _ _ _ g
-    arrow_params (params.Round b) g = round b g
+    arrow_params (shape.Bare x) g = i.goes x _ _ _ g
+    arrow_params (shape.Round b) g = round b g
 
     one_tail : {ns : List Node} {r : R} {s : S} (t : Tail X) → G ns r s → G (tail_row unm i.put t ns) (tail_row v.marks i.one t r) (tail_row w.marks i.two t s)
     one_tail (tail.Member dot name) g = token (is kind.Dot) dot (token is_member_name name g)

@@ -9,7 +9,7 @@ use Rattle.js_tree.specs.declared.token.TokenClass.{TokenClass}
 use Rattle.js_tree.specs.declared.token.TokenClass.TheVariants as class
 use Rattle.js_tree.specs.declared.lists.Arm.{Arm}
 use Rattle.js_tree.specs.declared.lists.ArrowParams.{ArrowParams}
-use Rattle.js_tree.specs.declared.lists.ArrowParams.TheVariants as params
+use Rattle.js_tree.specs.declared.lists.ArrowParams.TheVariants as shape
 use Rattle.js_tree.specs.declared.lists.Tail.{Tail}
 use Rattle.js_tree.specs.declared.tree.Expr.{Expr, out-Expr}
 use Rattle.js_tree.specs.declared.tree.Expr.TheOpen.{Expr-F, Function-F, Pattern-F}
@@ -263,8 +263,8 @@ expr_some (Expr-F.Cond arms last) = arms_some arms
 expr_some _ = refl
 
 params_some : (ps : ArrowParams Slot) → arrow_params_row some_part.marks some_part.slot ps true ≡ true
-params_some (params.Bare x) = refl
-params_some (params.Round b) = refl
+params_some (shape.Bare x) = refl
+params_some (shape.Round b) = refl
 
 function_some : (x : FunctionLayer) → function_row some_part x false ≡ true
 function_some (Function-F.Keyword word name ps body) = refl

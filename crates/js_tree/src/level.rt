@@ -84,6 +84,9 @@ fn rank(expr: &Expr) -> u32
     }
 }
 
+// The rank of an arrow is that of an assignment.
+const ARROW: u32 = 1;
+
 // The rank of a function.
 fn function_rank(function: &Function) -> u32
     ensures { result ≡ function_kind_rank (out-Function function.now) }
@@ -99,12 +102,12 @@ fn function_rank(function: &Function) -> u32
             params: _,
             arrow: _,
             value: _,
-        } => 1,
+        } => ARROW,
         Function::ArrowBlock {
             params: _,
             arrow: _,
             body: _,
-        } => 1,
+        } => ARROW,
     }
 }
 

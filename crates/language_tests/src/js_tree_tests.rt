@@ -140,7 +140,7 @@ fn octal_escapes_have_no_value(rt: HostRuntime) -> Result<(), Fail> {
     Ok(())
 }
 
-fn mark(alloc: Global, text: &str, start: u32) -> Result<Token, OutOfMemory> {
+pub(crate) fn mark(alloc: Global, text: &str, start: u32) -> Result<Token, OutOfMemory> {
     token(alloc, text, TokenClass::Punct, start)
 }
 
@@ -148,17 +148,17 @@ fn word(alloc: Global, text: &str, start: u32) -> Result<Token, OutOfMemory> {
     token(alloc, text, TokenClass::Word, start)
 }
 
-fn name(alloc: Global, text: &str, start: u32) -> Result<Token, OutOfMemory> {
+pub(crate) fn name(alloc: Global, text: &str, start: u32) -> Result<Token, OutOfMemory> {
     token(alloc, text, TokenClass::Name, start)
 }
 
 // A name as an expression.
-fn named(alloc: Global, text: &str, start: u32) -> Result<Boxed<Expr>, OutOfMemory> {
+pub(crate) fn named(alloc: Global, text: &str, start: u32) -> Result<Boxed<Expr>, OutOfMemory> {
     Ok(Boxed::new(alloc, Expr::Name(name(alloc, text, start)?))?)
 }
 
 // `( s , ... t )`
-fn arguments(alloc: Global, start: u32) -> Result<Bracket<Boxed<Expr>>, OutOfMemory> {
+fn arguments(alloc: Global, start: u32) -> Result<Bracket<Element<Boxed<Expr>>>, OutOfMemory> {
     let mut front = Vec::new(alloc);
     front.push(Listed {
         item: Element {

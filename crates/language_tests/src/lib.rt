@@ -7,3 +7,5 @@ mod js_parser_tests;
 mod js_tokens_tests;
 #[cfg(test)]
 mod js_tree_tests;
+#[cfg(test)]
+mod pattern_tree_tests;

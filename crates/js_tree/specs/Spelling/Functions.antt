@@ -2,7 +2,7 @@
 use Rattle.std.specs.Prelude.{ℕ, List, [], ◌∷◌, codes, Option, Some, None, is_some, Bool, false, ◌&&◌}
 use Rattle.std.specs.Str.{bytes_eq}
 use Rattle.js_tree.specs.declared.lists.ArrowParams.{ArrowParams}
-use Rattle.js_tree.specs.declared.lists.ArrowParams.TheVariants as params
+use Rattle.js_tree.specs.declared.lists.ArrowParams.TheVariants as shape
 use Rattle.js_tree.specs.declared.lists.Bracket.{Bracket}
 use Rattle.js_tree.specs.declared.lists.Element.{Element}
 use Rattle.js_tree.specs.declared.token_kind.TokenKind.TheVariants as kind
@@ -31,8 +31,8 @@ params_fit b = all_within (λ x. stands DECLARED x.value) b && all_in_front is_p
 
 -- without brackets a name stands alone
 abbrev pub arrow_params_fit : ArrowParams Seen → Bool
-arrow_params_fit (params.Bare x) = stands DECLARED x && is_some x.name && x.is_target
-arrow_params_fit (params.Round b) = params_fit b
+arrow_params_fit (shape.Bare x) = stands DECLARED x && is_some x.name && x.is_target
+arrow_params_fit (shape.Round b) = params_fit b
 
 -- an arrow gives an Assign
 abbrev pub function_musts : FunctionOf Seen → List Bool

@@ -2,7 +2,7 @@
 use Rattle.std.specs.Prelude.{List, [], ◌∷◌, Option, Some, None, Bool}
 use Rattle.js_tree.specs.declared.lists.Arm.{Arm}
 use Rattle.js_tree.specs.declared.lists.ArrowParams.{ArrowParams}
-use Rattle.js_tree.specs.declared.lists.ArrowParams.TheVariants as params
+use Rattle.js_tree.specs.declared.lists.ArrowParams.TheVariants as shape
 use Rattle.js_tree.specs.declared.lists.Block.{Block}
 use Rattle.js_tree.specs.declared.lists.Bracket.{Bracket}
 use Rattle.js_tree.specs.declared.lists.Element.{Element}
@@ -95,8 +95,8 @@ object_row m put = bracket_row m kind.LeftBrace kind.RightBrace put
 
 -- the parameters of an arrow (ECMA-262, 14.2)
 abbrev pub arrow_params_row : {X R : Type 0} → Marks R → (X → R → R) → ArrowParams X → R → R
-arrow_params_row m put (params.Bare x) rest = put x rest
-arrow_params_row m put (params.Round b) rest = round_row m put b rest
+arrow_params_row m put (shape.Bare x) rest = put x rest
+arrow_params_row m put (shape.Round b) rest = round_row m put b rest
 
 -- what a template begins with, by its substitutions, and what stands behind one of them, by those that follow
 abbrev pub template_head : {X : Type 0} → List X → TokenKind → Bool

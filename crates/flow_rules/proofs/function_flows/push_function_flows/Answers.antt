@@ -7,7 +7,7 @@ use Rattle.js_tree.proofs.TextLemmas.{tokens_count}
 use Rattle.js_scopes.specs.Functions.{name_in, params_in, start_of}
 use Rattle.js_scopes.proofs.OwnTokens.{params_owned}
 use Rattle.flow_rules.specs.AtHand.{facts_in}
-use Rattle.flow_rules.specs.Flows.{named_flows, params_flows}
+use Rattle.flow_rules.specs.Flows.{arrow_flows, named_flows, params_flows, rest_param_flows}
 use Rattle.flow_rules.proofs.function_flows.push_function_flows.Goals as goal
 
 pub push_params-requires : goal.push_params-requires
@@ -27,11 +27,17 @@ returns c =
     let out = c.args.out.now.items in
     let f = c.args.function.now in
     let l = out-Function f in
-    let number : c.number-number.result ≡ facts.known.number (start_of f) = c.number-number.ensures ∙ ap facts.known.number c.start_of.ensures in
-    let named : c.push_named.new.out.items ≡ out ++ named_flows facts.known (facts.known.number (start_of f)) (name_in l)
-    = c.in_ok-push_named.ensures {u = tt} ∙ (λ i. out ++ named_flows facts.known (number i) (c.own_name.ensures i)) in
+    let k = facts.known.number (start_of f) in
+    let number : c.number-number.result ≡ k = c.number-number.ensures ∙ ap facts.known.number c.start_of.ensures in
+    let named : c.push_named.new.out.items ≡ out ++ named_flows facts.known k (name_in l) = c.in_ok-push_named.ensures {u = tt} ∙ (λ i. out ++ named_flows facts.known (number i) (c.own_name.ensures i)) in
     let params : map (λ s. s.now) c.as_slice.result.now ≡ params_in l = ap (map (λ s. s.now)) c.as_slice.ensures.value ∙ c.in_ok-params.ensures {u = tt} in
-    on_ok_weaker c.push_params.result
-    (λ e. e ∙ (λ i. named i ++ params_flows facts (number i) 0 (params i))
-    ∙ append_assoc out (named_flows facts.known (facts.known.number (start_of f)) (name_in l)) (params_flows facts (facts.known.number (start_of f)) 0 (params_in l)))
-    c.push_params.ensures
+    let N = named_flows facts.known k (name_in l) in
+    let P = params_flows facts k 0 (params_in l) in
+    let R = rest_param_flows k l in
+    let A = arrow_flows facts k l in
+    let taken = c.in_ok-push_params.ensures {u = tt} ∙ (λ i. named i ++ params_flows facts (number i) 0 (params i)) in
+    let rest = c.in_ok-push_rest_param.ensures {u = tt} ∙ (λ i. taken i ++ rest_param_flows (number i) l) in
+    on_ok_weaker c.push_arrow.result
+    (λ e. e ∙ (λ i. rest i ++ arrow_flows facts (number i) l)
+    ∙ ap (λ z. (z ++ R) ++ A) (append_assoc out N P) ∙ ap (λ z. z ++ A) (append_assoc out (N ++ P) R) ∙ append_assoc out (N ++ P ++ R) A)
+    c.push_arrow.ensures

@@ -1,7 +1,6 @@
 use Rattle.std.proofs.Common.{◌++◌, ◌∷◌, map, take, ap, sym, ◌∙◌}
 use Rattle.std.proofs.lemmas.List.{drop_all}
 use Rattle.js_tree.specs.Parts.{node_of, tails_behind}
-
 use Rattle.js_tree.proofs.Adding.{adds_tail}
 use Rattle.js_tree.proofs.in_node.push_tails.Goals as goal
 
