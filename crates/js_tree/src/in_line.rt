@@ -1,5 +1,5 @@
 //! What stands in lists of the line of a node, in brackets, or may be missing.
-ghost use Rattle.std.specs.Prelude.{◌≡◌, ◌∷◌, List, OnOk};
+ghost use Rattle.std.specs.Prelude.{◌≡◌, [], ◌∷◌, List, OnOk};
 ghost use Rattle.js_tree.specs.Adds.{Adds};
 ghost use Rattle.js_tree.specs.Line.{AToken, LineItem as GhostItem, given_marks, in_brackets, item_of, items, tail_items};
 ghost use Rattle.js_tree.specs.Spelling.Rows.{arm_row, arrow_params_row, block_row, each_of, element_row, init_row, listed_row, maybe, template_row};
@@ -17,11 +17,11 @@ use sqlite_items::Boxed;
 /// What has tokens and nodes in the line of a node.
 pub trait InLine<'t> {
     /// Its tokens and nodes, in front of other items.
-    ghost row: { Self → List GhostItem → List GhostItem };
+    ghost put: { Self → List GhostItem → List GhostItem };
 
     /// Adds its tokens and nodes.
     fn push_items(&'t self, out: &mut Vec<LineItem<'t>>) -> Result<(), OutOfMemory>
-        ensures { OnOk result (Adds item_of (row self.now) out.old.items out.new.items) };
+        ensures { OnOk result (Adds item_of (put self.now) out.old.items out.new.items) };
 }
 
 /// Adds the items of a list, one after another.
@@ -29,7 +29,7 @@ pub fn push_each<'t, X: InLine<'t>>(
     list: &'t [X],
     out: &mut Vec<LineItem<'t>>,
 ) -> Result<(), OutOfMemory>
-    ensures { OnOk result (Adds item_of (each_of X.row list.now) out.old.items out.new.items) }
+    ensures { OnOk result (Adds item_of (each_of X.put list.now) out.old.items out.new.items) }
 {
     for item in list {
         item.push_items(out)?;
@@ -57,7 +57,7 @@ pub fn push_tails<'t>(
 }
 
 impl<'t> InLine<'t> for Token {
-    ghost row = { λ t rest. AToken t ∷ rest };
+    ghost put = { λ t rest. AToken t ∷ rest };
 
     fn push_items(&'t self, out: &mut Vec<LineItem<'t>>) -> Result<(), OutOfMemory> {
         push_token(self, out)
@@ -65,7 +65,7 @@ impl<'t> InLine<'t> for Token {
 }
 
 impl<'t> InLine<'t> for Expr {
-    ghost row = { items.expr };
+    ghost put = { items.expr };
 
     fn push_items(&'t self, out: &mut Vec<LineItem<'t>>) -> Result<(), OutOfMemory> {
         push_node(Node::Expr(self), out)
@@ -73,7 +73,7 @@ impl<'t> InLine<'t> for Expr {
 }
 
 impl<'t> InLine<'t> for PatternProperty {
-    ghost row = { items.pattern_property };
+    ghost put = { items.pattern_property };
 
     fn push_items(&'t self, out: &mut Vec<LineItem<'t>>) -> Result<(), OutOfMemory> {
         push_node(Node::PatternProperty(self), out)
@@ -81,7 +81,7 @@ impl<'t> InLine<'t> for PatternProperty {
 }
 
 impl<'t> InLine<'t> for Property {
-    ghost row = { items.property };
+    ghost put = { items.property };
 
     fn push_items(&'t self, out: &mut Vec<LineItem<'t>>) -> Result<(), OutOfMemory> {
         push_node(Node::Property(self), out)
@@ -89,7 +89,7 @@ impl<'t> InLine<'t> for Property {
 }
 
 impl<'t> InLine<'t> for Stmt {
-    ghost row = { items.stmt };
+    ghost put = { items.stmt };
 
     fn push_items(&'t self, out: &mut Vec<LineItem<'t>>) -> Result<(), OutOfMemory> {
         push_node(Node::Stmt(self), out)
@@ -97,7 +97,7 @@ impl<'t> InLine<'t> for Stmt {
 }
 
 impl<'t> InLine<'t> for Slot {
-    ghost row = { items.slot };
+    ghost put = { items.slot };
 
     fn push_items(&'t self, out: &mut Vec<LineItem<'t>>) -> Result<(), OutOfMemory> {
         push_node(Node::Slot(self), out)
@@ -105,7 +105,7 @@ impl<'t> InLine<'t> for Slot {
 }
 
 impl<'t, X: InLine<'t>> InLine<'t> for Boxed<X> {
-    ghost row = { X.row };
+    ghost put = { X.put };
 
     fn push_items(&'t self, out: &mut Vec<LineItem<'t>>) -> Result<(), OutOfMemory> {
         self.get().push_items(out)
@@ -113,7 +113,7 @@ impl<'t, X: InLine<'t>> InLine<'t> for Boxed<X> {
 }
 
 impl<'t, X: InLine<'t>> InLine<'t> for Option<X> {
-    ghost row = { maybe X.row };
+    ghost put = { maybe X.put };
 
     fn push_items(&'t self, out: &mut Vec<LineItem<'t>>) -> Result<(), OutOfMemory> {
         match self {
@@ -124,7 +124,7 @@ impl<'t, X: InLine<'t>> InLine<'t> for Option<X> {
 }
 
 impl<'t, X: InLine<'t>> InLine<'t> for Listed<X> {
-    ghost row = { listed_row given_marks X.row };
+    ghost put = { listed_row given_marks X.put };
 
     fn push_items(&'t self, out: &mut Vec<LineItem<'t>>) -> Result<(), OutOfMemory> {
         self.item.push_items(out)?;
@@ -133,7 +133,7 @@ impl<'t, X: InLine<'t>> InLine<'t> for Listed<X> {
 }
 
 impl<'t, X: InLine<'t>> InLine<'t> for Further<X> {
-    ghost row = { λ x rest. AToken x.mark ∷ X.row x.item rest };
+    ghost put = { λ x rest. AToken x.mark ∷ X.put x.item rest };
 
     fn push_items(&'t self, out: &mut Vec<LineItem<'t>>) -> Result<(), OutOfMemory> {
         push_token(&self.mark, out)?;
@@ -142,7 +142,7 @@ impl<'t, X: InLine<'t>> InLine<'t> for Further<X> {
 }
 
 impl<'t, X: InLine<'t>> InLine<'t> for Element<X> {
-    ghost row = { element_row given_marks X.row };
+    ghost put = { element_row given_marks X.put };
 
     fn push_items(&'t self, out: &mut Vec<LineItem<'t>>) -> Result<(), OutOfMemory> {
         self.dots.push_items(out)?;
@@ -151,7 +151,7 @@ impl<'t, X: InLine<'t>> InLine<'t> for Element<X> {
 }
 
 impl<'t, X: InLine<'t>> InLine<'t> for Arm<X> {
-    ghost row = { arm_row given_marks X.row };
+    ghost put = { arm_row given_marks X.put };
 
     fn push_items(&'t self, out: &mut Vec<LineItem<'t>>) -> Result<(), OutOfMemory> {
         self.test.push_items(out)?;
@@ -162,7 +162,7 @@ impl<'t, X: InLine<'t>> InLine<'t> for Arm<X> {
 }
 
 impl<'t, X: InLine<'t>> InLine<'t> for Init<X> {
-    ghost row = { init_row given_marks X.row };
+    ghost put = { init_row given_marks X.put };
 
     fn push_items(&'t self, out: &mut Vec<LineItem<'t>>) -> Result<(), OutOfMemory> {
         push_token(&self.equals, out)?;
@@ -171,7 +171,7 @@ impl<'t, X: InLine<'t>> InLine<'t> for Init<X> {
 }
 
 impl<'t, X: InLine<'t>> InLine<'t> for Template<X> {
-    ghost row = { template_row given_marks X.row };
+    ghost put = { template_row given_marks X.put };
 
     fn push_items(&'t self, out: &mut Vec<LineItem<'t>>) -> Result<(), OutOfMemory> {
         push_token(&self.head, out)?;
@@ -180,7 +180,7 @@ impl<'t, X: InLine<'t>> InLine<'t> for Template<X> {
 }
 
 impl<'t, X: InLine<'t>> InLine<'t> for Bracket<X> {
-    ghost row = { in_brackets X.row };
+    ghost put = { in_brackets X.put };
 
     fn push_items(&'t self, out: &mut Vec<LineItem<'t>>) -> Result<(), OutOfMemory> {
         push_token(&self.open, out)?;
@@ -191,7 +191,7 @@ impl<'t, X: InLine<'t>> InLine<'t> for Bracket<X> {
 }
 
 impl<'t, X: InLine<'t>> InLine<'t> for ArrowParams<X> {
-    ghost row = { arrow_params_row given_marks X.row };
+    ghost put = { arrow_params_row given_marks X.put };
 
     fn push_items(&'t self, out: &mut Vec<LineItem<'t>>) -> Result<(), OutOfMemory> {
         match self {
@@ -202,7 +202,7 @@ impl<'t, X: InLine<'t>> InLine<'t> for ArrowParams<X> {
 }
 
 impl<'t, X: InLine<'t>> InLine<'t> for Block<X> {
-    ghost row = { block_row given_marks X.row };
+    ghost put = { block_row given_marks X.put };
 
     fn push_items(&'t self, out: &mut Vec<LineItem<'t>>) -> Result<(), OutOfMemory> {
         push_token(&self.begin, out)?;

@@ -1,5 +1,5 @@
 //! The nodes in a node that stand in lists, in brackets, or may be missing.
-ghost use Rattle.std.specs.Prelude.{◌≡◌, ◌∷◌, List, OnOk};
+ghost use Rattle.std.specs.Prelude.{◌≡◌, [], ◌∷◌, List, OnOk};
 ghost use Rattle.js_tree.specs.Adds.{Adds};
 ghost use Rattle.js_tree.specs.Parts.{Node as GhostNode, node_of, nodes, tails_behind};
 ghost use Rattle.js_tree.specs.Spelling.Nodes.{unmarked};
@@ -16,11 +16,11 @@ use sqlite_items::Boxed;
 /// What has nodes in it.
 pub trait InNode<'t> {
     /// The nodes in it, in front of others.
-    ghost row: { Self → List GhostNode → List GhostNode };
+    ghost put: { Self → List GhostNode → List GhostNode };
 
     /// Adds the nodes in it.
     fn push_nodes(&'t self, out: &mut Vec<Node<'t>>) -> Result<(), OutOfMemory>
-        ensures { OnOk result (Adds node_of (row self.now) out.old.items out.new.items) };
+        ensures { OnOk result (Adds node_of (put self.now) out.old.items out.new.items) };
 }
 
 /// Adds the nodes in the items of a list, one after another.
@@ -28,7 +28,7 @@ pub fn push_each<'t, X: InNode<'t>>(
     list: &'t [X],
     out: &mut Vec<Node<'t>>,
 ) -> Result<(), OutOfMemory>
-    ensures { OnOk result (Adds node_of (each_of X.row list.now) out.old.items out.new.items) }
+    ensures { OnOk result (Adds node_of (each_of X.put list.now) out.old.items out.new.items) }
 {
     for item in list {
         item.push_nodes(out)?;
@@ -56,7 +56,7 @@ pub fn push_tails<'t>(
 }
 
 impl<'t> InNode<'t> for Expr {
-    ghost row = { nodes.expr };
+    ghost put = { nodes.expr };
 
     fn push_nodes(&'t self, out: &mut Vec<Node<'t>>) -> Result<(), OutOfMemory> {
         push(Node::Expr(self), out)
@@ -64,7 +64,7 @@ impl<'t> InNode<'t> for Expr {
 }
 
 impl<'t> InNode<'t> for PatternProperty {
-    ghost row = { nodes.pattern_property };
+    ghost put = { nodes.pattern_property };
 
     fn push_nodes(&'t self, out: &mut Vec<Node<'t>>) -> Result<(), OutOfMemory> {
         push(Node::PatternProperty(self), out)
@@ -72,7 +72,7 @@ impl<'t> InNode<'t> for PatternProperty {
 }
 
 impl<'t> InNode<'t> for Property {
-    ghost row = { nodes.property };
+    ghost put = { nodes.property };
 
     fn push_nodes(&'t self, out: &mut Vec<Node<'t>>) -> Result<(), OutOfMemory> {
         push(Node::Property(self), out)
@@ -80,7 +80,7 @@ impl<'t> InNode<'t> for Property {
 }
 
 impl<'t> InNode<'t> for Stmt {
-    ghost row = { nodes.stmt };
+    ghost put = { nodes.stmt };
 
     fn push_nodes(&'t self, out: &mut Vec<Node<'t>>) -> Result<(), OutOfMemory> {
         push(Node::Stmt(self), out)
@@ -88,7 +88,7 @@ impl<'t> InNode<'t> for Stmt {
 }
 
 impl<'t> InNode<'t> for Slot {
-    ghost row = { nodes.slot };
+    ghost put = { nodes.slot };
 
     fn push_nodes(&'t self, out: &mut Vec<Node<'t>>) -> Result<(), OutOfMemory> {
         push(Node::Slot(self), out)
@@ -96,7 +96,7 @@ impl<'t> InNode<'t> for Slot {
 }
 
 impl<'t, X: InNode<'t>> InNode<'t> for Boxed<X> {
-    ghost row = { X.row };
+    ghost put = { X.put };
 
     fn push_nodes(&'t self, out: &mut Vec<Node<'t>>) -> Result<(), OutOfMemory> {
         self.get().push_nodes(out)
@@ -104,7 +104,7 @@ impl<'t, X: InNode<'t>> InNode<'t> for Boxed<X> {
 }
 
 impl<'t, X: InNode<'t>> InNode<'t> for Option<X> {
-    ghost row = { maybe X.row };
+    ghost put = { maybe X.put };
 
     fn push_nodes(&'t self, out: &mut Vec<Node<'t>>) -> Result<(), OutOfMemory> {
         match self {
@@ -115,7 +115,7 @@ impl<'t, X: InNode<'t>> InNode<'t> for Option<X> {
 }
 
 impl<'t, X: InNode<'t>> InNode<'t> for Listed<X> {
-    ghost row = { listed_row unmarked X.row };
+    ghost put = { listed_row unmarked X.put };
 
     fn push_nodes(&'t self, out: &mut Vec<Node<'t>>) -> Result<(), OutOfMemory> {
         self.item.push_nodes(out)
@@ -123,7 +123,7 @@ impl<'t, X: InNode<'t>> InNode<'t> for Listed<X> {
 }
 
 impl<'t, X: InNode<'t>> InNode<'t> for Further<X> {
-    ghost row = { λ x rest. X.row x.item rest };
+    ghost put = { λ x rest. X.put x.item rest };
 
     fn push_nodes(&'t self, out: &mut Vec<Node<'t>>) -> Result<(), OutOfMemory> {
         self.item.push_nodes(out)
@@ -131,7 +131,7 @@ impl<'t, X: InNode<'t>> InNode<'t> for Further<X> {
 }
 
 impl<'t, X: InNode<'t>> InNode<'t> for Element<X> {
-    ghost row = { element_row unmarked X.row };
+    ghost put = { element_row unmarked X.put };
 
     fn push_nodes(&'t self, out: &mut Vec<Node<'t>>) -> Result<(), OutOfMemory> {
         self.value.push_nodes(out)
@@ -139,7 +139,7 @@ impl<'t, X: InNode<'t>> InNode<'t> for Element<X> {
 }
 
 impl<'t, X: InNode<'t>> InNode<'t> for Arm<X> {
-    ghost row = { arm_row unmarked X.row };
+    ghost put = { arm_row unmarked X.put };
 
     fn push_nodes(&'t self, out: &mut Vec<Node<'t>>) -> Result<(), OutOfMemory> {
         self.test.push_nodes(out)?;
@@ -148,7 +148,7 @@ impl<'t, X: InNode<'t>> InNode<'t> for Arm<X> {
 }
 
 impl<'t, X: InNode<'t>> InNode<'t> for Init<X> {
-    ghost row = { init_row unmarked X.row };
+    ghost put = { init_row unmarked X.put };
 
     fn push_nodes(&'t self, out: &mut Vec<Node<'t>>) -> Result<(), OutOfMemory> {
         self.value.push_nodes(out)
@@ -156,7 +156,7 @@ impl<'t, X: InNode<'t>> InNode<'t> for Init<X> {
 }
 
 impl<'t, X: InNode<'t>> InNode<'t> for Template<X> {
-    ghost row = { template_row unmarked X.row };
+    ghost put = { template_row unmarked X.put };
 
     fn push_nodes(&'t self, out: &mut Vec<Node<'t>>) -> Result<(), OutOfMemory> {
         push_each(self.parts.as_slice(), out)
@@ -164,7 +164,7 @@ impl<'t, X: InNode<'t>> InNode<'t> for Template<X> {
 }
 
 impl<'t, X: InNode<'t>> InNode<'t> for Bracket<X> {
-    ghost row = { λ b rest. each_of (listed_row unmarked X.row) b.front (maybe X.row b.last rest) };
+    ghost put = { λ b rest. each_of (listed_row unmarked X.put) b.front (maybe X.put b.last rest) };
 
     fn push_nodes(&'t self, out: &mut Vec<Node<'t>>) -> Result<(), OutOfMemory> {
         push_each(self.front.as_slice(), out)?;
@@ -173,7 +173,7 @@ impl<'t, X: InNode<'t>> InNode<'t> for Bracket<X> {
 }
 
 impl<'t, X: InNode<'t>> InNode<'t> for ArrowParams<X> {
-    ghost row = { arrow_params_row unmarked X.row };
+    ghost put = { arrow_params_row unmarked X.put };
 
     fn push_nodes(&'t self, out: &mut Vec<Node<'t>>) -> Result<(), OutOfMemory> {
         match self {
@@ -184,7 +184,7 @@ impl<'t, X: InNode<'t>> InNode<'t> for ArrowParams<X> {
 }
 
 impl<'t, X: InNode<'t>> InNode<'t> for Block<X> {
-    ghost row = { block_row unmarked X.row };
+    ghost put = { block_row unmarked X.put };
 
     fn push_nodes(&'t self, out: &mut Vec<Node<'t>>) -> Result<(), OutOfMemory> {
         push_each(self.body.as_slice(), out)

@@ -1,5 +1,5 @@
 -- Functions (ECMA-262, clause 14): of what each is made up, and what is asked of it.
-use Rattle.std.specs.Prelude.{ℕ, List, [], ◌∷◌, codes, Option, Some, None, is_some, Bool, false, ◌&&◌}
+use Rattle.std.specs.Prelude.{ℕ, List, [], ◌∷◌, codes, Option, Some, None, is_some, Bool, true, false, ◌&&◌}
 use Rattle.std.specs.Str.{bytes_eq}
 use Rattle.js_tree.specs.declared.lists.ArrowParams.{ArrowParams}
 use Rattle.js_tree.specs.declared.lists.ArrowParams.TheVariants as shape
