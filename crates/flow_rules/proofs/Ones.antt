@@ -225,11 +225,11 @@ abbrev pub starts_at : ℕ → FunctionInfo → Bool
 starts_at offset f = nat_eq f.start offset
 
 -- a name that is a pattern, or a slot's, is left to a function that begins with it
-pattern_left : ℕ → PatternLayer → ℕ
+abbrev pub pattern_left : ℕ → PatternLayer → ℕ
 pattern_left offset (Pattern-F.«Pattern::Name» t) = one_if (nat_eq t.start offset)
 pattern_left offset _ = 0
 
-abbrev target_left : ℕ → Slot → ℕ
+abbrev pub target_left : ℕ → Slot → ℕ
 target_left offset s = pattern_left offset (out-Pattern (out-Slot s).target)
 
 abbrev pub name_left : ℕ → Node → ℕ
