@@ -61,7 +61,10 @@ fn name_start(pattern: &Pattern, other: &Token) -> u32
 pub(crate) fn is_arrow(function: &Function) -> bool
     ensures { result ≡ seen.is_arrow (out-Function function.now) }
 {
-    matches!(function, Function::Arrow { .. } | Function::ArrowBlock { .. })
+    matches!(
+        function,
+        Function::Arrow { .. } | Function::ArrowBlock { .. }
+    )
 }
 
 /// The value that an arrow without braces gives.

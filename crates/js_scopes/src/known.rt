@@ -8,9 +8,9 @@ ghost use Rattle.js_scopes.specs.AtHand.{known_in};
 ghost use Rattle.js_scopes.specs.Brackets.{elements};
 ghost use Rattle.js_scopes.specs.Calls as seen;
 
+use crate::arrows::start_of;
 use crate::binding::{Binding, WrapperName};
 use crate::bindings::Bindings;
-use crate::arrows::start_of;
 use crate::function::FunctionInfo;
 use crate::numbers::function_number;
 use crate::required::first_string;

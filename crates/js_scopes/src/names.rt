@@ -13,8 +13,8 @@ ghost use Rattle.js_scopes.specs.Scopes as seen;
 ghost use Rattle.js_scopes.specs.Scopes.{names_in, own_names, around_in};
 ghost use Rattle.js_scopes.specs.Around.{around_of, AreReady, IsNumberedBy};
 
-use crate::binding::{Binding, BoundName};
 use crate::arrows::{is_arrow, start_of};
+use crate::binding::{Binding, BoundName};
 use crate::declaration::Scope;
 use crate::function::FunctionInfo;
 use crate::numbers::{function_number, local_number};
