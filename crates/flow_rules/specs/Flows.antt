@@ -26,7 +26,6 @@ use Rattle.flow_rules.specs.declared.module.Flow.{Flow}
 use Rattle.flow_rules.specs.declared.module.ModuleNote.{ModuleNote}
 use Rattle.flow_rules.specs.declared.module.Require.{Require}
 use Rattle.flow_rules.specs.declared.notes.Standing.TheVariants as standing
-use Rattle.flow_rules.specs.declared.vertex.Vertex.{Vertex}
 use Rattle.flow_rules.specs.declared.vertex.Vertex.TheVariants as vertex
 use Rattle.flow_rules.specs.Arguments.{arguments_in, arguments_of_name}
 use Rattle.flow_rules.specs.Calls.{flow, made_flows, tail_flows}
