@@ -1,0 +1,15 @@
+pub mod CoverLemmas
+pub mod CoveringLemmas
+pub mod DeclaredLemmas
+pub mod EqualsLemmas
+pub mod ItemsLemmas
+pub mod LineLemmas
+pub mod LoopLemmas
+pub mod MeasureLemmas
+pub mod PairLemmas
+pub mod ParametersLemmas
+pub mod ParenLemmas
+pub mod ReadLemmas
+pub mod RoomLemmas
+pub mod SoundLemmas
+pub mod ViewLemmas

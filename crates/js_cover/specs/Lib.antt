@@ -1,0 +1,5 @@
+pub mod Answers
+pub mod Covers
+pub mod Pairs
+pub mod Parens
+pub mod Rooms
