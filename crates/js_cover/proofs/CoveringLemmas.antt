@@ -23,7 +23,7 @@ use Rattle.js_tree.specs.Spelling.Expressions.{expr_sound, expr_target}
 use Rattle.js_tree.specs.Spelling.Nodes.{Seen, ASSIGN, CHAIN, stands, passes, all_within, all_in_front, array_fits, is_plain, rest_fits, unmarked, highest_of}
 use Rattle.js_tree.specs.Spelling.Patterns.{pattern_name, pattern_property_row, pattern_property_sound, pattern_row, pattern_target, slot_row, slot_step, slots_fit, is_no_rest as stands_no_rest}
 use Rattle.js_tree.specs.Spelling.Rows.{bracket_row, item_row}
-use Rattle.js_tree.specs.TokenKinds.{is}
+use Rattle.js_tree.specs.TokenKinds.{is as is_kind}
 use Rattle.js_tree.proofs.Folds.{map_array, map_bracket, map_element, map_init, map_listed, map_maybe}
 use Rattle.js_tree.proofs.RowLemmas.{over, pattern_over, pattern_property_over, slot_over}
 use Rattle.js_tree.proofs.SpellingLemmas.{at_expr, at_pattern, at_pattern_property, at-ArrayPattern, at-ObjectPattern, at-Slot, expr_layer, of_expr, of_pattern, of_pattern_property, of_slot, pattern_layer, pattern_property_layer, pattern_height_some}
@@ -103,20 +103,21 @@ slots_split d h =
     record {
       sound = a.0;
       hole = hole;
-      ends = all_three (all_in_front (passes is_plain) d) (passes is_some d.last) (passes (passes rest_alone) d.last)
-          (sym (each_same (map_maybe (map_element slot)) (passes is_plain) (passes is_plain) plain_item d.front) ∙ s.1) hole
-          (sym (may_same (map_maybe (map_element slot)) (passes rest_fits) (passes rest_alone) rest_item d.last) ∙ s.2);
+      ends = two (all_in_front (passes is_plain) d) (passes is_some d.last && passes (passes rest_alone) d.last)
+          (sym (each_same (map_maybe (map_element slot)) (passes is_plain) (passes is_plain) plain_item d.front) ∙ s.1)
+          (two (passes is_some d.last) (passes (passes rest_alone) d.last) hole (sym (may_same (map_maybe (map_element slot)) (passes rest_fits) (passes rest_alone) rest_item d.last) ∙ s.2));
     }
 
 pub slots_join : (d : Bracket (Option (Element Slot))) → all_within (passes (λ (x : Element Seen). x.value.is_sound)) (map_array slot d) ≡ true → slots_end d ≡ true
     → slots_fit (map_array slot d) ≡ true
 slots_join d sound ends =
-    let e : (all_in_front (passes is_plain) d ≡ true) × (passes is_some d.last ≡ true) × (passes (passes rest_alone) d.last ≡ true) = three _ _ _ ends in
+    let f : (all_in_front (passes is_plain) d ≡ true) × ((passes is_some d.last && passes (passes rest_alone) d.last) ≡ true) = and_parts _ _ ends in
+    let e : (passes is_some d.last ≡ true) × (passes (passes rest_alone) d.last ≡ true) = and_parts _ _ f.1 in
     let b = map_array slot d in
     all_three (array_fits (λ (x : Element Seen). x.value.is_sound) b) (all_in_front (passes is_plain) b) (passes (passes rest_fits) b.last)
-    (two (all_within (passes (λ (x : Element Seen). x.value.is_sound)) b) (passes is_some b.last) sound (last_some d.last ∙ e.1))
-    (each_same (map_maybe (map_element slot)) (passes is_plain) (passes is_plain) plain_item d.front ∙ e.0)
-    (may_same (map_maybe (map_element slot)) (passes rest_fits) (passes rest_alone) rest_item d.last ∙ e.2)
+    (two (all_within (passes (λ (x : Element Seen). x.value.is_sound)) b) (passes is_some b.last) sound (last_some d.last ∙ e.0))
+    (each_same (map_maybe (map_element slot)) (passes is_plain) (passes is_plain) plain_item d.front ∙ f.0)
+    (may_same (map_maybe (map_element slot)) (passes rest_fits) (passes rest_alone) rest_item d.last ∙ e.1)
 
 -- HEIGHTS
 
@@ -131,12 +132,12 @@ item_height None = 0
 item_height (Some x) = (slot x.value).height
 
 item_has : (x : Option (Element Slot)) (h : ℕ) → item_height x ≤ item_up x h
-item_has None h = omega arith
-item_has (Some x) h = omega arith
+item_has None h = let goal : 0 ≤ h = omega arith in goal
+item_has (Some x) h = let goal : (slot x.value).height ≤ max (slot x.value).height h = omega arith in goal
 
 item_rises : (x : Option (Element Slot)) (h : ℕ) → h ≤ item_up x h
-item_rises None h = omega arith
-item_rises (Some x) h = omega arith
+item_rises None h = let goal : h ≤ h = omega arith in goal
+item_rises (Some x) h = let goal : h ≤ max (slot x.value).height h = omega arith in goal
 
 abbrev property_up : PatternProperty → ℕ → ℕ
 property_up p h = max (pattern_property p).height h
@@ -145,10 +146,10 @@ abbrev property_height : PatternProperty → ℕ
 property_height p = (pattern_property p).height
 
 property_has : (p : PatternProperty) (h : ℕ) → property_height p ≤ property_up p h
-property_has p h = omega arith
+property_has p h = let goal : (pattern_property p).height ≤ max (pattern_property p).height h = omega arith in goal
 
 property_rises : (p : PatternProperty) (h : ℕ) → h ≤ property_up p h
-property_rises p h = omega arith
+property_rises p h = let goal : h ≤ max (pattern_property p).height h = omega arith in goal
 
 -- the height of a node over the nodes in it
 pub pattern_up : (p : Pattern) (l : PatternLayer) → out-Pattern p ≡ l → (pattern p).height ≡ pattern_row (over highest_of seen_views) l 0 + 1
@@ -230,34 +231,31 @@ slot_is s target init e = at-Slot s ∙ ap (λ (l : SlotLayer). slot_step (recor
 slot_covering : (n : ℕ) → Deeper n → (s : Slot) → (slot s).height ≤ n → (slot s).is_sound ≡ true → CoveringSlot n s
 slot_covering n deeper s low sound = by_init (out-Slot s).init refl
   where
-    target : Pattern
-    target = (out-Slot s).target
-
     by_init : (o : Option (Init Expr)) → (out-Slot s).init ≡ o → CoveringSlot n s
     by_init None e =
-        let o : out-Slot s ≡ record { target = target; init = None } = λ j. record { target = target; init = e j } in
-        let h : (slot s).height ≡ max (pattern target).height 0 = slot_up_to s ∙ ap (λ (l : SlotLayer). slot_row (over highest_of seen_views) l 0) o in
-        let fit : ((pattern target).is_sound ≡ true) × (true ≡ true) = and_parts _ _ (sym (ap (λ (z : Seen). z.is_sound) (slot_is s target None o)) ∙ sound) in
-        let c = deeper target (omega (arith, h, low)) fit.0 in
+        let o : out-Slot s ≡ record { target = (out-Slot s).target; init = None } = λ j. record { target = (out-Slot s).target; init = e j } in
+        let h : (slot s).height ≡ max (pattern (out-Slot s).target).height 0 = slot_up_to s ∙ ap (λ (l : SlotLayer). slot_row (over highest_of seen_views) l 0) o in
+        let fit : ((pattern (out-Slot s).target).is_sound ≡ true) × (true ≡ true) = and_parts _ _ (sym (ap (λ (z : Seen). z.is_sound) (slot_is s (out-Slot s).target None o)) ∙ sound) in
+        let c = deeper (out-Slot s).target (omega (arith, h, low)) fit.0 in
         record { cover = c.cover; covers = Alone c.covers e; at = c.at; rank = c.rank; name = c.name }
     by_init (Some i) e =
-        let o : out-Slot s ≡ record { target = target; init = Some i } = λ j. record { target = target; init = e j } in
-        let h : (slot s).height ≡ max (pattern target).height (max (expr i.value).height 0) = slot_up_to s ∙ ap (λ (l : SlotLayer). slot_row (over highest_of seen_views) l 0) o in
-        let fit : ((pattern target).is_sound ≡ true) × ((is kind.Assign (kind_at i.equals) && stands ASSIGN (expr i.value)) ≡ true) =
-            and_parts _ _ (sym (ap (λ (z : Seen). z.is_sound) (slot_is s target (Some i) o)) ∙ sound) in
-        let init : (is kind.Assign (kind_at i.equals) ≡ true) × (stands ASSIGN (expr i.value) ≡ true) = and_parts _ _ fit.1 in
-        let x = expression.Assign target i.equals i.value in
-        let ox = expression.outs-Assign target i.equals i.value in
-        let some = pattern_height_some target in
+        let o : out-Slot s ≡ record { target = (out-Slot s).target; init = Some i } = λ j. record { target = (out-Slot s).target; init = e j } in
+        let h : (slot s).height ≡ max (pattern (out-Slot s).target).height (max (expr i.value).height 0) = slot_up_to s ∙ ap (λ (l : SlotLayer). slot_row (over highest_of seen_views) l 0) o in
+        let fit : ((pattern (out-Slot s).target).is_sound ≡ true) × ((is_kind kind.Assign (kind_at i.equals) && stands ASSIGN (expr i.value)) ≡ true) =
+            and_parts _ _ (sym (ap (λ (z : Seen). z.is_sound) (slot_is s (out-Slot s).target (Some i) o)) ∙ sound) in
+        let init : (is_kind kind.Assign (kind_at i.equals) ≡ true) × (stands ASSIGN (expr i.value) ≡ true) = and_parts _ _ fit.1 in
+        let x = expression.Assign (out-Slot s).target i.equals i.value in
+        let ox = expression.outs-Assign (out-Slot s).target i.equals i.value in
+        let some = pattern_height_some (out-Slot s).target in
         record {
           cover = x;
-          covers = WithInit target i.equals i.value ox init.0 o;
+          covers = WithInit (out-Slot s).target i.equals i.value ox init.0 o;
           at = some_room n (CoverAt n x)
               (λ m k. subst (λ (r : ℕ). CoverAt r x) (sym k)
-              (AsInit target i.equals i.value ox fit.0 (ap (λ (b : Bool). b || (pattern target).is_target) init.0) init.1 (omega (arith, h, low, k)) (omega (arith, h, low, k))))
+              (AsInit (out-Slot s).target i.equals i.value ox fit.0 (ap (λ (b : Bool). b || (pattern (out-Slot s).target).is_target) init.0) init.1 (omega (arith, h, low, k)) (omega (arith, h, low, k))))
               (omega (arith, h, low, some));
-          rank = ap (λ (z : Seen). nat_le ASSIGN z.rank) (at_expr x (Expr-F.Assign target i.equals i.value) ox);
-          name = λ name. ap names_layer ox ∙ two (is_name_layer (out-Pattern target)) (is kind.Assign (kind_at i.equals)) name init.0;
+          rank = ap (λ (z : Seen). nat_le ASSIGN z.rank) (at_expr x (Expr-F.Assign (out-Slot s).target i.equals i.value) ox);
+          name = λ name. ap names_layer ox ∙ two (is_name_layer (out-Pattern (out-Slot s).target)) (is_kind kind.Assign (kind_at i.equals)) name init.0;
         }
 
 target_layer : (l : PatternLayer) → pattern_target (pattern_layer l) ≡ true → is_place_layer l ≡ true

@@ -2,14 +2,17 @@ pub mod CoverLemmas
 pub mod CoveringLemmas
 pub mod DeclaredLemmas
 pub mod EqualsLemmas
+pub mod HeightLemmas
 pub mod ItemsLemmas
 pub mod LineLemmas
 pub mod LoopLemmas
+pub mod MadeLemmas
 pub mod MeasureLemmas
 pub mod PairLemmas
 pub mod ParametersLemmas
 pub mod ParenLemmas
 pub mod ReadLemmas
 pub mod RoomLemmas
+pub mod RoundLemmas
 pub mod SoundLemmas
 pub mod ViewLemmas

@@ -13,6 +13,7 @@ use Rattle.js_tree.specs.Spelling.Patterns.{DECLARED, is_declared}
 use Rattle.js_tree.specs.Spelling.Rows.{element_row, round_row}
 use Rattle.js_tree.proofs.Folds.{map_element, map_round}
 use Rattle.js_cover.specs.Covers.{CoversParameters, CoversSlot, parameters_end, rest_alone}
+use Rattle.js_cover.specs.Heights.{element_height}
 use Rattle.js_cover.specs.Pairs.{ElementPair}
 use Rattle.js_cover.specs.Rooms.{CoverAt, ElementAt, Throughout}
 use Rattle.js_cover.proofs.CoveringLemmas.{rest_same, slot_has_cover, three}
@@ -24,6 +25,12 @@ slot_up s h = max (slot s).height h
 -- the height of the highest slot, or 0
 abbrev pub highest_slot : Bracket (Element Slot) → ℕ
 highest_slot d = round_row unmarked slot_up d 0
+
+element_has : (x : Element Slot) (h : ℕ) → element_height x ≤ element_row unmarked slot_up x h
+element_has x h = let goal : (slot x.value).height ≤ max (slot x.value).height h = omega arith in goal
+
+element_rises : (x : Element Slot) (h : ℕ) → h ≤ element_row unmarked slot_up x h
+element_rises x h = let goal : h ≤ max (slot x.value).height h = omega arith in goal
 
 pub record CoveringParameters (n : ℕ) (d : Bracket (Element Slot)) : Type 0 where
   pub cover : Bracket (Element Expr)
@@ -50,7 +57,7 @@ module _ (n : ℕ) where
       let fits = all_pass (map_element slot) (λ (x : Element Seen). stands DECLARED x.value) d s.0 in
       let made = bracket_made (ElementPair CoversSlot) (ElementAt (CoverAt n)) d
           (both_throughout (λ y. stands DECLARED (slot y.value) ≡ true) (λ y. (slot y.value).height ≤ n) ElementMade element_made d fits
-          (bracket_low (element_row unmarked slot_up) (λ (x : Element Slot). (slot x.value).height) (λ x h. omega arith) (λ x h. omega arith) kind.LeftParen kind.RightParen n d low)) in
+          (bracket_low (element_row unmarked slot_up) element_height element_has element_rises kind.LeftParen kind.RightParen n d low)) in
       let front = sym (each_same (map_element slot) is_plain is_plain (λ x. refl) d.front) ∙ s.1 in
       let last = sym (may_same (map_element slot) rest_fits rest_alone rest_same d.last) ∙ s.2 in
       record {

@@ -47,12 +47,24 @@ item_height None = 0
 item_height (Some x) = (expr x.value).height
 
 pub item_has : (x : Option (Element Expr)) (h : ℕ) → item_height x ≤ item_row unmarked expr_up x h
-item_has None h = omega arith
-item_has (Some x) h = omega arith
+item_has None h = let goal : 0 ≤ h = omega arith in goal
+item_has (Some x) h = let goal : (expr x.value).height ≤ max (expr x.value).height h = omega arith in goal
 
 pub item_rises : (x : Option (Element Expr)) (h : ℕ) → h ≤ item_row unmarked expr_up x h
-item_rises None h = omega arith
-item_rises (Some x) h = omega arith
+item_rises None h = let goal : h ≤ h = omega arith in goal
+item_rises (Some x) h = let goal : h ≤ max (expr x.value).height h = omega arith in goal
+
+abbrev pub value_up : Property → ℕ → ℕ
+value_up x h = max (property x).height h
+
+abbrev pub value_height : Property → ℕ
+value_height x = (property x).height
+
+pub value_has : (x : Property) (h : ℕ) → value_height x ≤ value_up x h
+value_has x h = let goal : (property x).height ≤ max (property x).height h = omega arith in goal
+
+pub value_rises : (x : Property) (h : ℕ) → h ≤ value_up x h
+value_rises x h = let goal : h ≤ max (property x).height h = omega arith in goal
 
 -- IN AN ARRAY
 
@@ -109,11 +121,11 @@ property_at m x good low = by_layer (out-Property x) refl
 
 pub object_at : (m : ℕ) (x : Expr) (b : Bracket Property) → out-Expr x ≡ Expr-F.«Expr::Object» b → CoverAt (suc m) x → ObjectAt m b
 object_at m x b is (AsExpr good low) =
-    let h : (expr x).height ≡ bracket_row unmarked kind.LeftBrace kind.RightBrace (λ y h. max (property y).height h) b 0 + 1 = expr_up_to x (Expr-F.«Expr::Object» b) is in
+    let h : (expr x).height ≡ bracket_row unmarked kind.LeftBrace kind.RightBrace value_up b 0 + 1 = expr_up_to x (Expr-F.«Expr::Object» b) is in
     let fit : all_within (λ (z : Seen). z.is_sound) (map_bracket property b) ≡ true = sym (ap (λ (z : Seen). z.is_sound) (at-Object x b is)) ∙ good in
     both_throughout (λ y. (property y).is_sound ≡ true) (λ y. (property y).height ≤ m) (PropertyAt (CoverAt m) m) (property_at m) b
     (all_pass property (λ (z : Seen). z.is_sound) b fit)
-    (bracket_low (λ y h. max (property y).height h) (λ y. (property y).height) (λ y h. omega arith) (λ y h. omega arith) kind.LeftBrace kind.RightBrace m b (omega (arith, h, low)))
+    (bracket_low value_up value_height value_has value_rises kind.LeftBrace kind.RightBrace m b (omega (arith, h, low)))
 object_at m x b is (AsInit target op value e s o g h k) = absurd (omega (arith, ap tag (sym is ∙ e)))
 object_at m x b is (AsArray a e all some) = absurd (omega (arith, ap tag (sym is ∙ e)))
 object_at m x b is (AsObject a e all) = subst (ObjectAt m) (ap (properties_in a) (sym e ∙ is)) all

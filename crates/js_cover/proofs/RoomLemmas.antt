@@ -84,15 +84,19 @@ module _ {I : Type 0} (put : I → ℕ → ℕ) (size : I → ℕ) (has : (x : I
   pub each_low : (n r : ℕ) (xs : List (Listed I)) → each_of (listed_row unmarked put) xs r ≤ n → Every (λ x. size x ≤ n) xs × (r ≤ n)
   each_low n r [] h = (tt, h)
   each_low n r (x ∷ xs) h =
-      let more : ℕ = each_of (listed_row unmarked put) xs r in
-      let first = has x.item more in
-      let above = rises x.item more in
-      let rest : Every (λ y. size y ≤ n) xs × (r ≤ n) = each_low n r xs (omega (arith, h, above)) in
-      ((omega (arith, h, first), rest.0), rest.1)
+      let low : put x.item (each_of (listed_row unmarked put) xs r) ≤ n = h in
+      let first = has x.item (each_of (listed_row unmarked put) xs r) in
+      let above = rises x.item (each_of (listed_row unmarked put) xs r) in
+      let rest : Every (λ y. size y ≤ n) xs × (r ≤ n) = each_low n r xs (omega (arith, low, above)) in
+      ((omega (arith, low, first), rest.0), rest.1)
 
   may_low : (n : ℕ) (o : Option I) → maybe put o 0 ≤ n → IfThere (λ x. size x ≤ n) o
   may_low n None h = tt
-  may_low n (Some x) h = let first = has x 0 in omega (arith, h, first)
+  may_low n (Some x) h =
+      let low : put x 0 ≤ n = h in
+      let first = has x 0 in
+      let goal : size x ≤ n = omega (arith, low, first) in
+      goal
 
   pub bracket_low : (begin end : TokenKind) (n : ℕ) (b : Bracket I) → bracket_row unmarked begin end put b 0 ≤ n → Throughout (λ x. size x ≤ n) b
   bracket_low begin end n b h =

@@ -19,7 +19,7 @@ use Rattle.js_tree.specs.Spelling.{expr, key, pattern, pattern_property, slot}
 use Rattle.js_tree.specs.Spelling.Nodes.{Seen, ASSIGN, CHAIN, all_in_front, all_within, is_plain, passes, rest_fits, stands}
 use Rattle.js_tree.specs.Spelling.Functions.{params_fit}
 use Rattle.js_tree.specs.Spelling.Patterns.{DECLARED, is_declared}
-use Rattle.js_tree.specs.TokenKinds.{is}
+use Rattle.js_tree.specs.TokenKinds.{is as is_kind}
 use Rattle.js_tree.proofs.Folds.{map_bracket, map_element, map_maybe, map_round}
 use Rattle.js_tree.proofs.SpellingLemmas.{at_expr, at_pattern, at_pattern_property, at-ArrayPattern, at-ObjectPattern}
 use Rattle.js_cover.specs.Covers.{SlotBy, Alone, WithInit, PropertyBy, KeyedBy, NamedBy, RestBy, PatternBy, NameBy, MemberBy, ParenBy, ArrayBy, ObjectBy, CoversIn, Covers, CoversParameters, CoversSlot, CoversProperty, is_no_rest, is_place, is_place_layer, rest_alone}
@@ -76,7 +76,7 @@ pub record InitAt (target : Pattern) (op : Token) (value : Expr) : Type 0 where
 pub init_at : (n : ℕ) (x : Expr) (target : Pattern) (op : Token) (value : Expr) → out-Expr x ≡ Expr-F.Assign target op value → CoverAt n x → InitAt target op value
 init_at zero x target op value is c = absurd c
 init_at (suc m) x target op value is (AsExpr good low) =
-    let s : ((pattern target).is_sound ≡ true) × ((is kind.Assign (kind_at op) || (pattern target).is_target) ≡ true) × (stands ASSIGN (expr value) ≡ true) =
+    let s : ((pattern target).is_sound ≡ true) × ((is_kind kind.Assign (kind_at op) || (pattern target).is_target) ≡ true) × (stands ASSIGN (expr value) ≡ true) =
         three _ _ _ (sym (ap (λ (z : Seen). z.is_sound) (at_expr x (Expr-F.Assign target op value) is)) ∙ good) in
     record { target_sound = s.0; value_stands = s.2 }
 init_at (suc m) x target op value is (AsInit q t v e s o g h k) =
@@ -96,7 +96,7 @@ slot_sound n sound x s (Alone c i) at =
 slot_sound n sound x s (WithInit target op value e equals o) at =
     let v = init_at n x target op value e at in
     ap (λ (z : Seen). z.is_sound) (slot_is s target (Some (record { equals = op; value = value })) o)
-    ∙ two (pattern target).is_sound (is kind.Assign (kind_at op) && stands ASSIGN (expr value)) v.target_sound (two (is kind.Assign (kind_at op)) (stands ASSIGN (expr value)) equals v.value_stands)
+    ∙ two (pattern target).is_sound (is_kind kind.Assign (kind_at op) && stands ASSIGN (expr value)) v.target_sound (two (is_kind kind.Assign (kind_at op)) (stands ASSIGN (expr value)) equals v.value_stands)
 
 -- ITEMS AND PROPERTIES
 

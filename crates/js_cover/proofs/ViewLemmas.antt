@@ -17,7 +17,7 @@ use Rattle.js_tree.specs.declared.tree.Slot.{Slot, out-Slot, roll-Slot, roll-out
 use Rattle.js_tree.specs.Folds.{ExprLayer, PatternLayer, PatternPropertyLayer, PropertyLayer, SlotLayer}
 use Rattle.js_tree.specs.Pieces.{kind as kind_at}
 use Rattle.js_tree.specs.Spelling.{expr}
-use Rattle.js_tree.specs.TokenKinds.{is}
+use Rattle.js_tree.specs.TokenKinds.{is as is_kind}
 use Rattle.js_cover.specs.Covers.{SlotBy, Alone, WithInit, PropertyBy, KeyedBy, NamedBy, RestBy, PatternBy, NameBy, MemberBy, ParenBy, ArrayBy, ObjectBy, Covers, CoversSlot, CoversProperty, is_alone, is_assign, is_named, is_place, slots_end, properties_end}
 use Rattle.js_cover.specs.Pairs.{InPairs, ItemPair}
 use Rattle.js_cover.proofs.CoverLemmas.{opens}
@@ -206,7 +206,7 @@ abbrev pub slot_alone : Pattern → Slot
 slot_alone target = roll-Slot (record { target = target; init = None })
 
 pub record IsInitOf (target : Pattern) (op : Token) (value : Expr) (s : Slot) : Type 0 where
-  pub equals : is kind.Assign (kind_at op) ≡ true
+  pub equals : is_kind kind.Assign (kind_at op) ≡ true
   pub is : slot_with target op value ≡ s
 
 pub init_covers : (x : Expr) (s : Slot) (target : Pattern) (op : Token) (value : Expr) → out-Expr x ≡ Expr-F.Assign target op value → CoversSlot x s → IsInitOf target op value s
@@ -214,12 +214,9 @@ init_covers x s target op value is (Alone c i) = absurd (nothing_covered x (out-
 init_covers x s target op value is (WithInit q t v e equals o) =
     let k = sym e ∙ is in
     record {
-      equals = sym (ap (λ (u : Token). is_equals u) (ap (op_in t) k)) ∙ equals;
+      equals = sym (ap (λ (u : Token). is_kind kind.Assign (kind_at u)) (ap (op_in t) k)) ∙ equals;
       is = sym (λ i. slot_with (target_in q (k i)) (op_in t (k i)) (value_in v (k i))) ∙ ap roll-Slot (sym o) ∙ roll-out-Slot s;
     }
-  where
-    is_equals : Token → Bool
-    is_equals u = is kind.Assign (kind_at u)
 
 pub record IsAloneOf (x : Expr) (s : Slot) : Type 0 where
   pub target : Pattern

@@ -51,7 +51,7 @@ rest_alone x = is_plain x || is_alone x.value
 
 -- the last item of an array's pattern is no hole, and `...` stands before the last alone
 abbrev pub slots_end : Bracket (Option (Element Slot)) → Bool
-slots_end d = all_in_front (passes is_plain) d && passes is_some d.last && passes (passes rest_alone) d.last
+slots_end d = all_in_front (passes is_plain) d && (passes is_some d.last && passes (passes rest_alone) d.last)
 
 abbrev pub is_assign : ExprLayer → Bool
 is_assign (Expr-F.Assign target op value) = true

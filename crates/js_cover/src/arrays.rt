@@ -1,5 +1,5 @@
 //! Patterns of what was read as arrays (ECMA-262, 12.15.5 and 13.3.3).
-ghost use Rattle.std.specs.Prelude.{◌≡◌};
+ghost use Rattle.std.specs.Prelude.{◌≡◌, ◌&&◌, is_some};
 ghost use Rattle.std.specs.List.{list_all};
 ghost use Rattle.std.specs.Prelude as prelude;
 ghost use Rattle.js_tree.specs.declared.lists.Bracket.{Bracket};
@@ -7,7 +7,7 @@ ghost use Rattle.js_tree.specs.declared.lists.Element.{Element};
 ghost use Rattle.js_tree.specs.declared.lists.Listed.{Listed};
 ghost use Rattle.js_tree.specs.declared.tree.Expr.TheVariants as expression;
 ghost use Rattle.js_tree.specs.declared.tree.Slot.{Slot};
-ghost use Rattle.js_tree.specs.Spelling.Nodes.{all_in_front, passes, is_plain as stands_plain};
+ghost use Rattle.js_tree.specs.Spelling.Nodes.{passes, is_plain as stands_plain};
 ghost use Rattle.js_cover.specs.Answers.{Makes, MakesThis};
 ghost use Rattle.js_cover.specs.Covers.{Covers, CoversSlot};
 ghost use Rattle.js_cover.specs.Covers as covers;
@@ -144,13 +144,24 @@ pub fn element_slot(
 fn ends_well(slots: &Bracket<Option<Element<Slot>>>) -> bool
     ensures { result ≡ covers.slots_end slots.now }
 {
-    if !are_plain(slots.front.as_slice()) {
-        return false;
-    }
-    match &slots.last {
+    are_plain(slots.front.as_slice()) && last_ends(&slots.last)
+}
+
+fn last_ends(last: &Option<Option<Element<Slot>>>) -> bool
+    ensures { result ≡ (passes is_some last.now && passes (passes covers.rest_alone) last.now) }
+{
+    match last {
         None => true,
-        Some(None) => false,
-        Some(Some(element)) => may_end(element),
+        Some(item) => item_ends(item),
+    }
+}
+
+fn item_ends(item: &Option<Element<Slot>>) -> bool
+    ensures { result ≡ (is_some item.now && passes covers.rest_alone item.now) }
+{
+    match item {
+        None => false,
+        Some(element) => may_end(element),
     }
 }
 

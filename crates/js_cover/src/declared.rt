@@ -42,10 +42,14 @@ fn pattern_declared(pattern: &Pattern) -> bool
 fn slots_declared(slots: &Bracket<Option<Element<Slot>>>) -> bool
     ensures { result ≡ all_within (passes (λ (x : Element Slot). may_be_declared (seen.slot x.value))) slots.now }
 {
-    if !front_declared(slots.front.as_slice()) {
-        return false;
-    }
-    match &slots.last {
+    front_declared(slots.front.as_slice()) && last_declared(&slots.last)
+}
+
+#[cycle(declared)]
+fn last_declared(last: &Option<Option<Element<Slot>>>) -> bool
+    ensures { result ≡ passes (passes (λ (x : Element Slot). may_be_declared (seen.slot x.value))) last.now }
+{
+    match last {
         None => true,
         Some(item) => item_declared(item),
     }
@@ -78,10 +82,15 @@ fn item_declared(item: &Option<Element<Slot>>) -> bool
 fn properties_declared(properties: &Bracket<PatternProperty>) -> bool
     ensures { result ≡ all_within (λ (x : PatternProperty). may_be_declared (seen.pattern_property x)) properties.now }
 {
-    if !properties_front_declared(properties.front.as_slice()) {
-        return false;
-    }
-    match &properties.last {
+    properties_front_declared(properties.front.as_slice())
+        && last_property_declared(&properties.last)
+}
+
+#[cycle(declared)]
+fn last_property_declared(last: &Option<PatternProperty>) -> bool
+    ensures { result ≡ passes (λ (x : PatternProperty). may_be_declared (seen.pattern_property x)) last.now }
+{
+    match last {
         None => true,
         Some(property) => property_declared(property),
     }

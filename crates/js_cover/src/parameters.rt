@@ -7,7 +7,7 @@ ghost use Rattle.js_tree.specs.declared.lists.Element.{Element};
 ghost use Rattle.js_tree.specs.declared.lists.Listed.{Listed};
 ghost use Rattle.js_tree.specs.declared.tree.Slot.{Slot};
 ghost use Rattle.js_tree.specs.Spelling as seen;
-ghost use Rattle.js_tree.specs.Spelling.Nodes.{all_within, is_plain as stands_plain};
+ghost use Rattle.js_tree.specs.Spelling.Nodes.{all_within, passes, is_plain as stands_plain};
 ghost use Rattle.js_tree.specs.Spelling.Patterns.{is_declared as may_be_declared};
 ghost use Rattle.js_cover.specs.Answers.{Makes, MakesThis};
 ghost use Rattle.js_cover.specs.Covers.{CoversDeclared, CoversParameters, CoversSlot};
@@ -125,10 +125,13 @@ fn last_slot(
 fn ends_well(slots: &Bracket<Element<Slot>>) -> bool
     ensures { result ≡ covers.parameters_end slots.now }
 {
-    if !are_plain(slots.front.as_slice()) {
-        return false;
-    }
-    match &slots.last {
+    are_plain(slots.front.as_slice()) && last_ends(&slots.last)
+}
+
+fn last_ends(last: &Option<Element<Slot>>) -> bool
+    ensures { result ≡ passes covers.rest_alone last.now }
+{
+    match last {
         None => true,
         Some(element) => may_end(element),
     }
@@ -145,10 +148,13 @@ fn are_plain(front: &[Listed<Element<Slot>>]) -> bool
 fn are_declared(slots: &Bracket<Element<Slot>>) -> bool
     ensures { result ≡ all_within (λ (x : Element Slot). may_be_declared (seen.slot x.value)) slots.now }
 {
-    if !front_declared(slots.front.as_slice()) {
-        return false;
-    }
-    match &slots.last {
+    front_declared(slots.front.as_slice()) && last_declared(&slots.last)
+}
+
+fn last_declared(last: &Option<Element<Slot>>) -> bool
+    ensures { result ≡ passes (λ (x : Element Slot). may_be_declared (seen.slot x.value)) last.now }
+{
+    match last {
         None => true,
         Some(element) => is_declared(&element.value),
     }

@@ -16,7 +16,7 @@ use sqlite_items::{Boxed, Items};
 use std::alloc::{AllocError, Global};
 
 /// An expression in round brackets, with what it is.
-#[derive(Debug, Drop)]
+#[derive(Drop)]
 pub struct RoundExpr {
     /// The expression.
     pub node: Expr,
@@ -27,7 +27,7 @@ pub struct RoundExpr {
 }
 
 /// An expression, or several by commas.
-#[derive(Debug, Drop)]
+#[derive(Drop)]
 struct Sequence {
     // The first.
     first: Boxed<Expr>,
@@ -59,7 +59,10 @@ pub fn paren_of(
         return Ok(None);
     };
     let Element { dots, value } = last;
-    if dots.is_some() || !are_plain(front.as_slice()) {
+    if dots.is_some() {
+        return Ok(None);
+    }
+    if !are_plain(front.as_slice()) {
         return Ok(None);
     }
     let Sequence { first, others } = sequence(alloc, front, value)?;

@@ -1,10 +1,10 @@
 use Rattle.std.proofs.Common.{◌+◌, ◌*◌, ◌≤◌, length, reverse}
 use Rattle.js_tree.specs.Spelling.{expr}
 use Rattle.js_cover.specs.Covers.{CoversProperty, CoversSlot}
+use Rattle.js_cover.specs.Heights.{bracket_high, front_high, may_high}
 use Rattle.js_cover.specs.Pairs.{ItemPair}
 use Rattle.js_cover.proofs.LoopLemmas.{Halfway}
-use Rattle.js_cover.proofs.MeasureLemmas.{bracket_high, front_high, may_high, property_height}
-use Rattle.js_cover.proofs.ReadLemmas.{item_height}
+use Rattle.js_cover.proofs.ReadLemmas.{item_height, value_height}
 use Rattle.js_cover.proofs.+cover.Given as goal
 
 abbrev pub decreases-pattern_of : goal.decreases-pattern_of
@@ -47,19 +47,19 @@ abbrev pub decreases-rest : goal.decreases-rest
 decreases-rest l = 16 * (expr l.value).height + 7
 
 abbrev pub decreases-property : goal.decreases-property
-decreases-property l = 16 * property_height l.property + 8
+decreases-property l = 16 * value_height l.property + 8
 
 abbrev pub decreases-last_property : goal.decreases-last_property
-decreases-last_property l = 16 * may_high property_height l.last + 9
+decreases-last_property l = 16 * may_high value_height l.last + 9
 
 abbrev pub decreases-front_properties : goal.decreases-front_properties
-decreases-front_properties l = 16 * front_high property_height l.front + 9
+decreases-front_properties l = 16 * front_high value_height l.front + 9
 
 abbrev pub decreases-object_properties : goal.decreases-object_properties
-decreases-object_properties l = 16 * bracket_high property_height l.properties + 10
+decreases-object_properties l = 16 * bracket_high value_height l.properties + 10
 
 abbrev pub decreases-object_pattern : goal.decreases-object_pattern
-decreases-object_pattern l = 16 * bracket_high property_height l.properties + 11
+decreases-object_pattern l = 16 * bracket_high value_height l.properties + 11
 
 abbrev pub invariant-front_slots-loop-listed : goal.invariant-front_slots-loop-listed
 invariant-front_slots-loop-listed l = record {
@@ -73,7 +73,7 @@ decreases-front_slots-loop-listed l = length l.left
 abbrev pub invariant-front_properties-loop-listed : goal.invariant-front_properties-loop-listed
 invariant-front_properties-loop-listed l = record {
   halfway : Halfway CoversProperty l.fn.front l.properties (reverse l.left);
-  low : front_high property_height (reverse l.left) ≤ front_high property_height l.fn.front;
+  low : front_high value_height (reverse l.left) ≤ front_high value_height l.fn.front;
 }
 
 abbrev pub decreases-front_properties-loop-listed : goal.decreases-front_properties-loop-listed
