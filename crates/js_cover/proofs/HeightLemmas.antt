@@ -25,7 +25,7 @@ use Rattle.js_tree.proofs.RowLemmas.{over}
 use Rattle.js_cover.specs.Covers.{Covers, CoversSlot, is_assign}
 use Rattle.js_cover.specs.Heights.{IsArrayHeight, IsBracketHeight, IsFrontHeight, IsObjectHeight, IsPropertyHeight, IsSlotHeight, bracket_high, front_high, item_height, may_high, property_height}
 use Rattle.js_cover.specs.Pairs.{EachPair, MayPair}
-use Rattle.js_cover.proofs.CoveringLemmas.{pattern_up, property_up_to, slot_up_to}
+use Rattle.js_cover.proofs.SlotLemmas.{pattern_up, property_up_to, slot_up_to}
 use Rattle.js_cover.proofs.ViewLemmas.{alone_covers, array_covers, init_covers, member_covers, name_covers, object_covers, pair_covers, paren_covers, shorthand_covers, slot_alone, spread_covers}
 
 -- ROWS

@@ -20,7 +20,7 @@ use Rattle.js_tree.proofs.Folds.{map_further}
 use Rattle.js_tree.proofs.SpellingLemmas.{at_expr, expr_layer, function_layer, of_expr, of_function}
 use Rattle.js_cover.specs.Parens.{IsParen, OfOne, OfSeveral, first_of, others_of}
 use Rattle.js_cover.specs.Rooms.{Every, IfThere, Throughout}
-use Rattle.js_cover.proofs.CoveringLemmas.{all_three, three}
+use Rattle.js_cover.proofs.SlotLemmas.{all_three, three}
 
 -- an item may stand in round brackets
 abbrev pub StandsAt : Element Expr → Type 0

@@ -14,5 +14,6 @@ pub mod ParenLemmas
 pub mod ReadLemmas
 pub mod RoomLemmas
 pub mod RoundLemmas
+pub mod SlotLemmas
 pub mod SoundLemmas
 pub mod ViewLemmas

@@ -16,7 +16,8 @@ use Rattle.js_cover.specs.Covers.{CoversParameters, CoversSlot, parameters_end, 
 use Rattle.js_cover.specs.Heights.{element_height}
 use Rattle.js_cover.specs.Pairs.{ElementPair}
 use Rattle.js_cover.specs.Rooms.{CoverAt, ElementAt, Throughout}
-use Rattle.js_cover.proofs.CoveringLemmas.{rest_same, slot_has_cover, three}
+use Rattle.js_cover.proofs.CoveringLemmas.{slot_has_cover}
+use Rattle.js_cover.proofs.SlotLemmas.{rest_same, three}
 use Rattle.js_cover.proofs.RoomLemmas.{Made, all_pass, all_true, bracket_low, bracket_made, both_throughout, each_same, may_same}
 
 abbrev slot_up : Slot → ℕ → ℕ

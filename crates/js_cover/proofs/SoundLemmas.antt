@@ -26,7 +26,8 @@ use Rattle.js_cover.specs.Covers.{SlotBy, Alone, WithInit, PropertyBy, KeyedBy, 
 use Rattle.js_cover.specs.Pairs.{EachPair, ElementPair, MayPair, InPairs, ItemPair}
 use Rattle.js_cover.specs.Rooms.{Every, IfThere, Throughout, ItemAt, ElementAt, PropertyAt, PairAt, ShorthandAt, SpreadAt, ReadBy, AsExpr, AsInit, AsArray, AsObject, CoverAt}
 use Rattle.js_cover.proofs.CoverLemmas.{opens}
-use Rattle.js_cover.proofs.CoveringLemmas.{all_three, alone_target, named_slot, no_rest_same, rest_same, slot_is, slots_join, three, two}
+use Rattle.js_cover.proofs.CoveringLemmas.{slot_is}
+use Rattle.js_cover.proofs.SlotLemmas.{all_three, alone_target, named_slot, no_rest_same, rest_same, slots_join, three, two}
 use Rattle.js_cover.proofs.RoomLemmas.{all_are, all_passes, both_throughout, each_same, may_same}
 use Rattle.js_cover.proofs.ReadLemmas.{array_at, object_at, paren_at}
 use Rattle.js_cover.proofs.ViewLemmas.{key_in, given_in, op_in, property_tag, tag, target_in, value_in}

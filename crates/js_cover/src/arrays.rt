@@ -13,7 +13,7 @@ ghost use Rattle.js_cover.specs.Covers.{Covers, CoversSlot};
 ghost use Rattle.js_cover.specs.Covers as covers;
 ghost use Rattle.js_cover.specs.Pairs.{EachPair, ElementPair, InPairs, ItemPair, MayPair};
 
-use crate::reversed::reversed;
+use crate::reversal::reversed;
 use crate::slots::{is_alone, slot_of};
 use js_tree::{Bracket, Element, Expr, Listed, Pattern, Slot};
 use sqlite_items::{Boxed, Items};

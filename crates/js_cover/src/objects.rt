@@ -12,7 +12,7 @@ ghost use Rattle.js_cover.specs.Covers.{Covers, CoversProperty};
 ghost use Rattle.js_cover.specs.Covers as covers;
 ghost use Rattle.js_cover.specs.Pairs.{EachPair, InPairs, MayPair};
 
-use crate::reversed::reversed;
+use crate::reversal::reversed;
 use crate::slots::{is_alone, is_named, slot_of};
 use js_tree::{Bracket, Expr, Key, Listed, Pattern, PatternProperty, Property, Token};
 use sqlite_items::{Boxed, Items};

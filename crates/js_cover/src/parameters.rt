@@ -15,8 +15,8 @@ ghost use Rattle.js_cover.specs.Covers as covers;
 ghost use Rattle.js_cover.specs.Pairs.{EachPair, ElementPair, InPairs, MayPair};
 
 use crate::arrays::{element_slot, may_end};
-use crate::declared::is_declared;
-use crate::reversed::reversed;
+use crate::declarations::is_declared;
+use crate::reversal::reversed;
 use crate::slots::slot_of;
 use js_tree::{Bracket, Element, Expr, Listed, Slot};
 use sqlite_items::{Boxed, Items};

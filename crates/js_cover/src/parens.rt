@@ -10,7 +10,7 @@ ghost use Rattle.js_cover.specs.Answers.{Makes, MakesNode};
 ghost use Rattle.js_cover.specs.Parens.{IsParen, IsRound, IsSequence, LastIs, highest_item};
 ghost use Rattle.js_cover.specs.declared.parens.RoundExpr.{RoundExpr};
 
-use crate::reversed::reversed;
+use crate::reversal::reversed;
 use js_tree::{Bracket, Element, Expr, Further, Listed};
 use sqlite_items::{Boxed, Items};
 use std::alloc::{AllocError, Global};

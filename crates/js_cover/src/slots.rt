@@ -1,5 +1,5 @@
 //! Slots of what was read as expressions (ECMA-262, 12.15.5 and 13.3.3).
-ghost use Rattle.std.specs.Prelude.{◌≡◌, IfSome, Some, false};
+ghost use Rattle.std.specs.Prelude.{◌≡◌, IfSome, false};
 ghost use Rattle.js_tree.specs.declared.tree.Pattern.{out-Pattern};
 ghost use Rattle.js_tree.specs.declared.tree.Expr.{out-Expr};
 ghost use Rattle.js_tree.specs.declared.tree.Expr.TheVariants as expression;

@@ -1,5 +1,5 @@
 use Rattle.std.proofs.Common.{◌≡◌, ◌++◌, length, reverse}
-use Rattle.js_cover.proofs.reversed.reversed.Given as goal
+use Rattle.js_cover.proofs.reversal.reversed.Given as goal
 
 abbrev pub invariant-loop-item : goal.invariant-loop-item
 invariant-loop-item l = l.all ++ reverse l.items ≡ reverse l.fn.items
