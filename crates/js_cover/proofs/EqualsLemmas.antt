@@ -1,5 +1,5 @@
 -- The sign `=` among the marks.
-use Rattle.std.proofs.Common.{◌≡◌, ℕ, zero, suc, ◌+◌, Bool, true, false, if◌then◌else◌, List, [], ◌∷◌, refl, sym, ap, ◌∙◌, true≢false, codes}
+use Rattle.std.proofs.Common.{◌≡◌, ℕ, zero, suc, ◌+◌, Bool, true, false, if◌then◌else◌, List, [], ◌∷◌, refl, sym, ap, ◌∙◌, add-one, true≢false, codes}
 use Rattle.std.proofs.lemmas.Slice.Eq.{bytes_eq-Decides}
 use Rattle.std.specs.Prelude.{slice_index_or}
 use Rattle.std.specs.Str.{bytes_eq}
@@ -31,7 +31,7 @@ not_there sign text (m ∷ ms) (k ∷ ks) h other = by_row (bytes_eq m text) (is
     by_row : (b d : Bool) → bytes_eq m text ≡ b → is kind.Assign k ≡ d → is kind.Assign (slice_index_or (k ∷ ks) (if b then 0 else place_in ms text + 1) kind.End) ≡ false
     by_row true false e f = f
     by_row true true e f = absurd (here (bytes_eq m sign) e refl (sym (ap (λ (d : Bool). if d then (if bytes_eq m sign then rows_agree sign ms ks else false) else rows_agree sign ms ks) f) ∙ h))
-    by_row false d e f = not_there sign text ms ks (rest d f h) other
+    by_row false d e f = ap (λ (m : ℕ). is kind.Assign (slice_index_or (k ∷ ks) m kind.End)) (add-one (place_in ms text)) ∙ not_there sign text ms ks (rest d f h) other
       where
         rest : (d : Bool) → is kind.Assign k ≡ d → rows_agree sign (m ∷ ms) (k ∷ ks) ≡ true → rows_agree sign ms ks ≡ true
         rest true f h = inner (bytes_eq m sign) (sym (ap (λ (d : Bool). if d then (if bytes_eq m sign then rows_agree sign ms ks else false) else rows_agree sign ms ks) f) ∙ h)

@@ -39,8 +39,9 @@ module _ {I J : Type 0} (R : I → J → Type 0) where
           → (more : List (Listed J)) × (ys ≡ (done ++ record { item = y; mark = x.mark } ∷ []) ++ more) × EachPair R left more
       next ys t =
           let f = first_pair x left t.0 t.2 in
-          let same : record { item = y; mark = x.mark } ≡ f.0 = λ i. record { item = one f.0.item f.3 i; mark = f.4 i } in
-          (f.1, t.1 ∙ ap (λ (zs : List (Listed J)). done ++ zs) (f.2 ∙ sym (ap (λ (w : Listed J). w ∷ f.1) same)) ∙ sym (append_assoc done (record { item = y; mark = x.mark } ∷ []) f.1), f.5)
+          let made : Listed J = record { item = y; mark = x.mark } in
+          let same : made ≡ f.0 = λ i. record { item = one f.0.item f.3 i; mark = f.4 i } in
+          (f.1, t.1 ∙ ap (λ (zs : List (Listed J)). done ++ zs) (f.2 ∙ sym (ap (λ (w : Listed J). w ∷ f.1) same)) ∙ sym (append_assoc done (made ∷ []) f.1), f.5)
 
   -- nothing is made of the next item, so nothing of all
   pub halfway_none : (all left : List (Listed I)) (done : List (Listed J)) (x : Listed I) → Halfway all done (x ∷ left) → ((z : J) → R x.item z → ⊥) → (ys : List (Listed J)) → EachPair R all ys → ⊥
