@@ -71,11 +71,11 @@ closes x p (MemberBy head tails e target o) = record { levels = 1; within = Memb
 closes x p (ParenBy begin y end q e c place o) = record { levels = suc c.levels; within = ParenBy begin y end q e c.within place o }
 closes x p (ArrayBy b d e c ends o) =
     let all : Within (λ n. InPairs (ItemPair (SlotBy (CoversIn n)))) b d =
-        pairs_gather (λ n. ItemPair (SlotBy (CoversIn n))) items_rise b d (pairs_map (ItemPair CoversSlot) (Within (λ n. ItemPair (SlotBy (CoversIn n)))) item_gathers b d c) in
+    pairs_gather (λ n. ItemPair (SlotBy (CoversIn n))) items_rise b d (pairs_map (ItemPair CoversSlot) (Within (λ n. ItemPair (SlotBy (CoversIn n)))) item_gathers b d c) in
     record { levels = suc all.levels; within = ArrayBy b d e all.holds ends o }
 closes x p (ObjectBy b d e c ends o) =
     let all : Within (λ n. InPairs (PropertyBy (CoversIn n))) b d =
-        pairs_gather (λ n. PropertyBy (CoversIn n)) properties_rise b d (pairs_map CoversProperty (Within (λ n. PropertyBy (CoversIn n))) property_gathers b d c) in
+    pairs_gather (λ n. PropertyBy (CoversIn n)) properties_rise b d (pairs_map CoversProperty (Within (λ n. PropertyBy (CoversIn n))) property_gathers b d c) in
     record { levels = suc all.levels; within = ObjectBy b d e all.holds ends o }
 
 opens_in : (n : ℕ) (x : Expr) (p : Pattern) → CoversIn n x p → PatternBy Covers x p

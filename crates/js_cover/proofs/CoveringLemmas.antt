@@ -78,7 +78,7 @@ slot_covering n deeper s low sound = by_init (out-Slot s).init refl
         let o : out-Slot s ≡ record { target = (out-Slot s).target; init = Some i } = λ j. record { target = (out-Slot s).target; init = e j } in
         let h : (slot s).height ≡ max (pattern (out-Slot s).target).height (max (expr i.value).height 0) = slot_up_to s ∙ ap (λ (l : SlotLayer). slot_row (over highest_of seen_views) l 0) o in
         let fit : ((pattern (out-Slot s).target).is_sound ≡ true) × ((is_kind kind.Assign (kind_at i.equals) && stands ASSIGN (expr i.value)) ≡ true) =
-            and_parts _ _ (sym (ap (λ (z : Seen). z.is_sound) (slot_is s (out-Slot s).target (Some i) o)) ∙ sound) in
+        and_parts _ _ (sym (ap (λ (z : Seen). z.is_sound) (slot_is s (out-Slot s).target (Some i) o)) ∙ sound) in
         let init : (is_kind kind.Assign (kind_at i.equals) ≡ true) × (stands ASSIGN (expr i.value) ≡ true) = and_parts _ _ fit.1 in
         let x = expression.Assign (out-Slot s).target i.equals i.value in
         let ox = expression.outs-Assign (out-Slot s).target i.equals i.value in
@@ -230,9 +230,9 @@ module _ (m : ℕ) (deeper : Deeper m) where
           let h : (pattern p).height ≡ bracket_row unmarked kind.LeftBracket kind.RightBracket item_up d 0 + 1 = pattern_up p (Pattern-F.«Pattern::Array» d) e in
           let fit = slots_split d (sym (ap (λ (z : Seen). z.is_sound) u) ∙ sound) in
           let made = bracket_made (ItemPair CoversSlot) (IfThere (ElementAt (CoverAt m))) d
-              (both_throughout _ (λ y. item_height y ≤ m) ItemMade item_made d
-              (all_pass (map_maybe (map_element slot)) (passes (λ (x : Element Seen). x.value.is_sound)) d fit.sound)
-              (bracket_low item_up item_height item_has item_rises kind.LeftBracket kind.RightBracket m d (omega (arith, h, low)))) in
+          (both_throughout _ (λ y. item_height y ≤ m) ItemMade item_made d
+          (all_pass (map_maybe (map_element slot)) (passes (λ (x : Element Seen). x.value.is_sound)) d fit.sound)
+          (bracket_low item_up item_height item_has item_rises kind.LeftBracket kind.RightBracket m d (omega (arith, h, low)))) in
           let x = expression.Array made.by in
           let o = expression.outs-Array made.by in
           record {
@@ -248,11 +248,11 @@ module _ (m : ℕ) (deeper : Deeper m) where
           let u = at-ObjectPattern p d e in
           let h : (pattern p).height ≡ bracket_row unmarked kind.LeftBrace kind.RightBrace property_up d 0 + 1 = pattern_up p (Pattern-F.«Pattern::Object» d) e in
           let fit : (all_within (λ (z : Seen). z.is_sound) (map_bracket pattern_property d) ≡ true) × (all_in_front (λ (z : Seen). z.is_target) (map_bracket pattern_property d) ≡ true) =
-              and_parts _ _ (sym (ap (λ (z : Seen). z.is_sound) u) ∙ sound) in
+          and_parts _ _ (sym (ap (λ (z : Seen). z.is_sound) u) ∙ sound) in
           let made = bracket_made CoversProperty (PropertyAt (CoverAt m) m) d
-              (both_throughout _ (λ y. property_height y ≤ m) PropertyMade property_made d
-              (all_pass pattern_property (λ (z : Seen). z.is_sound) d fit.0)
-              (bracket_low property_up property_height property_has property_rises kind.LeftBrace kind.RightBrace m d (omega (arith, h, low)))) in
+          (both_throughout _ (λ y. property_height y ≤ m) PropertyMade property_made d
+          (all_pass pattern_property (λ (z : Seen). z.is_sound) d fit.0)
+          (bracket_low property_up property_height property_has property_rises kind.LeftBrace kind.RightBrace m d (omega (arith, h, low)))) in
           let x = expression.Object made.by in
           let o = expression.outs-Object made.by in
           record {

@@ -82,7 +82,7 @@ module _ {I J : Type 0} (R : I → J → Type 0) (size : J → ℕ) where
       omega (arith, a, b, c, d)
 
   pub bracket_is_high : (b : Bracket I) (n m : ℕ) → IsFrontHeight R size b.front n → ((r : Option J) → MayPair R b.last r → may_high size r ≡ m) → IsBracketHeight R size b (max n m)
-  bracket_is_high b n m front last d e = 
+  bracket_is_high b n m front last d e =
       let a = front d.front e.front in
       let z = last d.last e.last in
       let goal : max (front_high size d.front) (may_high size d.last) ≡ max n m = omega (arith, a, z) in
@@ -155,7 +155,7 @@ object_is_high x b n is all = pattern_is_high x (n + 1) (ap is_assign is) one
     one p c =
         let v = object_covers x p b is c in
         let h : (pattern p).height ≡ bracket_row unmarked kind.LeftBrace kind.RightBrace (λ q k. max (pattern_property q).height k) v.properties 0 + 1 =
-            pattern_up p (Pattern-F.«Pattern::Object» v.properties) (sym (ap out-Pattern v.is) ∙ bound.outs-Object v.properties) in
+        pattern_up p (Pattern-F.«Pattern::Object» v.properties) (sym (ap out-Pattern v.is) ∙ bound.outs-Object v.properties) in
         let k = row_high (λ q k. max (pattern_property q).height k) property_height (λ q k. refl) kind.LeftBrace kind.RightBrace v.properties in
         let a = all v.properties v.pairs in
         omega (arith, h, k, a)

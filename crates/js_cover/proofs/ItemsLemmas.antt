@@ -139,7 +139,7 @@ items_of x begin inner end is good = by_layer (out-Expr inner) refl
     by_layer : (l : ExprLayer) → out-Expr inner ≡ l → ItemsOf x
     by_layer (Expr-F.Comma first others) e =
         let s : (stands ASSIGN (expr first) ≡ true) × (not (is_empty (map (map_further expr) others)) ≡ true) × (all_further (stands ASSIGN) (map (map_further expr) others) ≡ true) =
-            three _ _ _ (sym (ap (λ (z : Seen). z.is_sound) (at_expr inner (Expr-F.Comma first others) e)) ∙ sound) in
+        three _ _ _ (sym (ap (λ (z : Seen). z.is_sound) (at_expr inner (Expr-F.Comma first others) e)) ∙ sound) in
         let all : Every StandsAt (front_of first others) × (stands ASSIGN (expr (last_of first others)) ≡ true) = front_stands first others s.0 s.2 in
         let item : Element Expr = record { dots = None; value = last_of first others } in
         record {

@@ -52,7 +52,7 @@ object_high x b is =
     let n : ℕ = bracket_row unmarked kind.LeftBrace kind.RightBrace value_up b 0 in
     let h : (expr x).height ≡ n + 1 = expr_up_to x (Expr-F.«Expr::Object» b) is in
     let low = within value_height n b
-        (bracket_low value_up value_height value_has value_rises kind.LeftBrace kind.RightBrace n b (self n)) in
+    (bracket_low value_up value_height value_has value_rises kind.LeftBrace kind.RightBrace n b (self n)) in
     omega (arith, h, low)
 
 pub paren_high : (x : Expr) (begin : Token) (y : Expr) (end : Token) → out-Expr x ≡ Expr-F.«Expr::Paren» begin y end → (expr y).height < (expr x).height

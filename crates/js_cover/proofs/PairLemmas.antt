@@ -50,8 +50,11 @@ module _ {I J : Type 0} (R : ℕ → I → J → Type 0) (rises : Rises R) where
       let n = first.levels + more.levels in
       record {
         levels = n;
-        holds = (rises first.levels n x.item y.item (omega arith) first.holds, e.1,
-            each_maps (R more.levels) (R n) (λ z w r. rises more.levels n z w (omega arith) r) xs ys more.holds);
+        holds = (
+          rises first.levels n x.item y.item (omega arith) first.holds,
+          e.1,
+          each_maps (R more.levels) (R n) (λ z w r. rises more.levels n z w (omega arith) r) xs ys more.holds,
+        );
       }
 
   pub may_gathers : (o : Option I) (r : Option J) → MayPair (Within R) o r → Within (λ n. MayPair (R n)) o r

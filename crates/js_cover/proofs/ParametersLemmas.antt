@@ -57,8 +57,8 @@ module _ (n : ℕ) where
       let s : (all_within (λ (x : Element Seen). stands DECLARED x.value) b ≡ true) × (all_in_front is_plain b ≡ true) × (passes rest_fits b.last ≡ true) = three _ _ _ good in
       let fits = all_pass (map_element slot) (λ (x : Element Seen). stands DECLARED x.value) d s.0 in
       let made = bracket_made (ElementPair CoversSlot) (ElementAt (CoverAt n)) d
-          (both_throughout (λ y. stands DECLARED (slot y.value) ≡ true) (λ y. (slot y.value).height ≤ n) ElementMade element_made d fits
-          (bracket_low (element_row unmarked slot_up) element_height element_has element_rises kind.LeftParen kind.RightParen n d low)) in
+      (both_throughout (λ y. stands DECLARED (slot y.value) ≡ true) (λ y. (slot y.value).height ≤ n) ElementMade element_made d fits
+      (bracket_low (element_row unmarked slot_up) element_height element_has element_rises kind.LeftParen kind.RightParen n d low)) in
       let front = sym (each_same (map_element slot) is_plain is_plain (λ x. refl) d.front) ∙ s.1 in
       let last = sym (may_same (map_element slot) rest_fits rest_alone rest_same d.last) ∙ s.2 in
       record {

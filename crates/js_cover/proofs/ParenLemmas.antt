@@ -97,8 +97,8 @@ several_height b x inner last ends c o =
     let h : (expr x).height ≡ max (expr inner).height 0 + 1 = ap (λ (z : Seen). z.height) (at_expr x (Expr-F.«Expr::Paren» b.«open» inner b.close) o) in
     let l = Expr-F.Comma (first_of b.front last.value) (others_of b.front last.value) in
     let g : (expr inner).height ≡ up (first_of b.front last.value) (each_of (further_row unmarked up (is kind.Comma)) (others_of b.front last.value) 0) + 1 =
-        ap (λ (z : Seen). z.height) (at_expr inner l c) ∙ ap (λ (n : ℕ). n + 1) (expr_over highest_of seen_views l 0) in
+    ap (λ (z : Seen). z.height) (at_expr inner l c) ∙ ap (λ (n : ℕ). n + 1) (expr_over highest_of seen_views l 0) in
     let s = shifted_height b.front last.value in
     let k : highest_item b ≡ each_of (listed_row unmarked (element_row unmarked up)) b.front (up last.value 0) =
-        λ i. each_of (listed_row unmarked (element_row unmarked up)) b.front (maybe (element_row unmarked up) (ends i) 0) in
+    λ i. each_of (listed_row unmarked (element_row unmarked up)) b.front (maybe (element_row unmarked up) (ends i) 0) in
     omega (arith, h, g, s, k)

@@ -79,7 +79,7 @@ pub array_at : (m : ℕ) (x : Expr) (b : Bracket (Option (Element Expr))) → ou
 array_at m x b is (AsExpr good low) =
     let h : (expr x).height ≡ bracket_row unmarked kind.LeftBracket kind.RightBracket (item_row unmarked expr_up) b 0 + 1 = expr_up_to x (Expr-F.«Expr::Array» b) is in
     let fit : (all_within (passes (λ (y : Element Seen). stands ASSIGN y.value)) (map_array expr b) ≡ true) × (passes is_some (map_array expr b).last ≡ true) =
-        and_parts _ _ (sym (ap (λ (z : Seen). z.is_sound) (at-Array x b is)) ∙ good) in
+    and_parts _ _ (sym (ap (λ (z : Seen). z.is_sound) (at-Array x b is)) ∙ good) in
     both_throughout _ (λ y. item_height y ≤ m) (IfThere (ElementAt (CoverAt m))) (item_at m) b
     (all_pass (map_maybe (map_element expr)) (passes (λ (y : Element Seen). stands ASSIGN y.value)) b fit.0)
     (bracket_low (item_row unmarked expr_up) item_height item_has item_rises kind.LeftBracket kind.RightBracket m b (omega (arith, h, low)))

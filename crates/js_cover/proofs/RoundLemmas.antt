@@ -94,8 +94,8 @@ module _ (b : Bracket (Element Expr)) (last : Element Expr) (ends : b.last ≡ S
   several_only inner is some x (OfSeveral l y e plain front all c o) =
       let same : last ≡ l = ap (taken last) (sym ends ∙ e) in
       let comma : inner ≡ y =
-          is ∙ (λ i. expression.Comma (begins i) (goes i)) ∙ ap (λ (z : Element Expr). expression.Comma (first_of b.front z.value) (others_of b.front z.value)) same
-          ∙ rolled y (Expr-F.Comma (first_of b.front l.value) (others_of b.front l.value)) (expression.Comma (first_of b.front l.value) (others_of b.front l.value))
-          (expression.rolls-Comma (first_of b.front l.value) (others_of b.front l.value)) c in
+      is ∙ (λ i. expression.Comma (begins i) (goes i)) ∙ ap (λ (z : Element Expr). expression.Comma (first_of b.front z.value) (others_of b.front z.value)) same
+      ∙ rolled y (Expr-F.Comma (first_of b.front l.value) (others_of b.front l.value)) (expression.Comma (first_of b.front l.value) (others_of b.front l.value))
+      (expression.rolls-Comma (first_of b.front l.value) (others_of b.front l.value)) c in
       ap (λ (f : Expr). expression.Paren b.«open» f b.close) comma
       ∙ rolled x (Expr-F.«Expr::Paren» b.«open» y b.close) (expression.Paren b.«open» y b.close) (expression.rolls-Paren b.«open» y b.close) o

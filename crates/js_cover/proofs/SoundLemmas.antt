@@ -78,7 +78,7 @@ pub init_at : (n : ℕ) (x : Expr) (target : Pattern) (op : Token) (value : Expr
 init_at zero x target op value is c = absurd c
 init_at (suc m) x target op value is (AsExpr good low) =
     let s : ((pattern target).is_sound ≡ true) × ((is_kind kind.Assign (kind_at op) || (pattern target).is_target) ≡ true) × (stands ASSIGN (expr value) ≡ true) =
-        three _ _ _ (sym (ap (λ (z : Seen). z.is_sound) (at_expr x (Expr-F.Assign target op value) is)) ∙ good) in
+    three _ _ _ (sym (ap (λ (z : Seen). z.is_sound) (at_expr x (Expr-F.Assign target op value) is)) ∙ good) in
     record { target_sound = s.0; value_stands = s.2 }
 init_at (suc m) x target op value is (AsInit q t v e s o g h k) =
     let w = sym e ∙ is in

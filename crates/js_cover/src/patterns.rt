@@ -49,12 +49,12 @@ fn member_pattern(
 #[cycle(cover)]
 fn paren_pattern(
     alloc: Global,
-    open: Token,
+    begin: Token,
     inner: Boxed<Expr>,
-    close: Token,
+    end: Token,
 ) -> Result<Option<Pattern>, AllocError>
-    ensures found { Makes result (Covers (expression.Paren open inner close)) }
-    ensures only { (p : Pattern) → Covers (expression.Paren open inner close) p → MakesThis result p }
+    ensures found { Makes result (Covers (expression.Paren begin inner end)) }
+    ensures only { (p : Pattern) → Covers (expression.Paren begin inner end) p → MakesThis result p }
 {
     let Some(inner) = pattern_of(alloc, inner.into_inner())? else {
         return Ok(None);
@@ -63,7 +63,11 @@ fn paren_pattern(
         return Ok(None);
     }
     let inner = Boxed::new(alloc, inner)?;
-    Ok(Some(Pattern::Paren { open, inner, close }))
+    Ok(Some(Pattern::Paren {
+        open: begin,
+        inner,
+        close: end,
+    }))
 }
 
 // Whether it is a name, a member, or one of them in round brackets.
