@@ -18,6 +18,7 @@ pub mod NewLemmas
 pub mod OperandLemmas
 pub mod ParenLemmas
 pub mod PlaceLemmas
+pub mod PrimaryLemmas
 pub mod ReadLemmas
 pub mod SlotLemmas
 pub mod StmtLemmas
