@@ -9,6 +9,7 @@ pub mod ExprLemmas
 pub mod FormLemmas
 pub mod FunctionLemmas
 pub mod HeadLemmas
+pub mod ItemLemmas
 pub mod JoinLemmas
 pub mod LeadLemmas
 pub mod ListLemmas

@@ -196,14 +196,6 @@ NoArguments x rest = is_some x.node ≡ false → NoKind (is kind.LeftParen) res
 abbrev pub ReadsMaybeArguments : ℕ → Place → Place → Result (Tall (Option (Bracket Expr))) TokenFault → Type 0
 ReadsMaybeArguments room = ReadsMaybe (λ x. maybe arguments_line x.node) (MaybeArgumentsAt room) NoArguments
 
-pub record ElementAt (room : ℕ) (x : Tall (Element Expr)) : Type 0 where
-  pub stands : argument_stands x.node ≡ true
-  pub height : x.height ≡ (expr x.node.value).height
-  pub fits : x.height ≤ room
-
-abbrev pub ReadsElement : ℕ → Place → Place → Result (Tall (Element Expr)) TokenFault → Type 0
-ReadsElement room = ReadsAs (λ x. element_row pieces expr_line x.node) (ElementAt room) (λ x. Stops ASSIGN)
-
 abbrev pub substitution_stands : Listed Expr → Bool
 substitution_stands x = stands 0 (expr x.item)
 
