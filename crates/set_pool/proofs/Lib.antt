@@ -1,0 +1,9 @@
+pub mod ChainLemmas
+pub mod ChainReads
+pub mod ChainWalks
+pub mod Members
+pub mod PoolLemmas
+pub mod PoolSteps
+pub mod TableLemmas
+pub mod WalkLemmas
+pub mod WindowLemmas

@@ -1,0 +1,5 @@
+pub mod Chains
+pub mod Pools
+pub mod Sets
+pub mod Tables
+pub mod Windows
