@@ -11,34 +11,36 @@ use Rattle.jam_app.specs.declared.answers.stop.Stop.{Stop}
 use Rattle.jam_app.specs.declared.answers.stop.Stop.TheVariants as stops
 use Rattle.jam_app.specs.declared.loading.text.Bad.{Bad}
 use Rattle.jam_app.specs.declared.loading.text.Bad.TheVariants as bad
-use Rattle.jam_app.specs.Reading.{HasBad, IsParsed, IsRefusedFor, not_in_profile, too_large}
+use Rattle.jam_app.specs.Reading.{HasBad, IsParsed, IsRefusedFor, construct, not_in_profile, too_large}
 use Rattle.jam_app.specs.Texts.{IsBad}
 use Rattle.composer.proofs.Members.{here}
 use Rattle.jam_app.proofs.Causes.{any_files, refused_stop, told}
 use Rattle.jam_app.specs.Stops.{HasBadCause, HasStopCause, KeepsCount, StopsFor}
 
 -- a module that has no tree
-pub bad_stop : (path bytes : List ℕ) (b : Bad) (files : Option Files) (before now : ℕ) (stop : Stop) → HasBadCause bytes b → StopsFor path b stop
-    → HasStopCause (λ m owed. IsRefusedFor path bytes owed) files before now stop
-bad_stop path bytes bad.OutOfMemory files before now stop cause is = subst (HasStopCause (λ m owed. IsRefusedFor path bytes owed) files before now) (sym is) tt
-bad_stop path bytes (bad.TooLarge n) files before now stop cause is =
-    refused_stop (λ m owed. IsRefusedFor path bytes owed) (refusal.TooLarge path n) files before now stop is (any_files files (λ m. subst (λ k. IsRefusedFor path bytes (refusal.TooLarge path k)) (sym cause.1) (too_large cause.0)))
-bad_stop path bytes (bad.At place) files before now stop cause is =
-    refused_stop (λ m owed. IsRefusedFor path bytes owed) (refusal.NotInProfile path place.offset) files before now stop is (any_files files (λ m. not_in_profile place.offset cause.0 cause.1 cause.2))
+pub bad_stop : (path text : List ℕ) (b : Bad) (files : Option Files) (before now : ℕ) (stop : Stop) → HasBadCause text b → StopsFor path b stop
+    → HasStopCause (λ m owed. IsRefusedFor path text owed) files before now stop
+bad_stop path text bad.OutOfMemory files before now stop cause is = subst (HasStopCause (λ m owed. IsRefusedFor path text owed) files before now) (sym is) tt
+bad_stop path text (bad.TooLarge n) files before now stop cause is =
+    refused_stop (λ m owed. IsRefusedFor path text owed) (refusal.TooLarge path n) files before now stop is (any_files files (λ m. subst (λ k. IsRefusedFor path text (refusal.TooLarge path k)) (sym cause.1) (too_large cause.0)))
+bad_stop path text (bad.Construct place what) files before now stop cause is =
+    refused_stop (λ m owed. IsRefusedFor path text owed) (refusal.Construct path place.offset what) files before now stop is (any_files files (λ m. construct place.offset what cause.0 cause.1 cause.2))
+bad_stop path text (bad.At place) files before now stop cause is =
+    refused_stop (λ m owed. IsRefusedFor path text owed) (refusal.NotInProfile path place.offset) files before now stop is (any_files files (λ m. not_in_profile place.offset cause.0 cause.1 cause.2))
 
 -- files that have a tree aren't bad
-none_bad : (parsed : List Parsed) (sources : List Source) → map (λ (p : Parsed). p.source) parsed ≡ sources → All IsParsed parsed → All (λ s. IsBad s.bytes.items → ⊥) sources
+none_bad : (parsed : List Parsed) (sources : List Source) → map (λ (p : Parsed). p.source) parsed ≡ sources → All IsParsed parsed → All (λ s. IsBad s.text → ⊥) sources
 none_bad parsed sources are read =
-    subst (All (λ (s : Source). IsBad s.bytes.items → ⊥)) are
-    (All-map (λ (s : Source). IsBad s.bytes.items → ⊥) (λ (p : Parsed). p.source) parsed (All-weaker IsParsed (λ p. IsBad p.source.bytes.items → ⊥) (λ p r. λ bad. bad p.tree r.spelled) parsed read))
+    subst (All (λ (s : Source). IsBad s.text → ⊥)) are
+    (All-map (λ (s : Source). IsBad s.text → ⊥) (λ (p : Parsed). p.source) parsed (All-weaker IsParsed (λ p. IsBad p.source.text → ⊥) (λ p r. λ bad. bad p.tree r.spelled) parsed read))
 
 -- a stop for one file of a round, behind those that have a tree, is one for the round
 pub bad_in : (parsed : List Parsed) (sources done : List Source) (source : Source) (behind : List Source) → map (λ (p : Parsed). p.source) parsed ≡ done → All IsParsed parsed
-    → sources ≡ done ++ source ∷ behind → (stop : Stop) → ((files : Option Files) (before now : ℕ) → HasStopCause (λ m owed. IsRefusedFor source.path source.bytes.items owed) files before now stop)
+    → sources ≡ done ++ source ∷ behind → (stop : Stop) → ((files : Option Files) (before now : ℕ) → HasStopCause (λ m owed. IsRefusedFor source.path source.text owed) files before now stop)
     → (files : Option Files) (before now : ℕ) → HasStopCause (λ m owed. HasBad sources owed) files before now stop
 bad_in parsed sources done source behind are read parts stop cause files before now = by stop (cause files before now)
   where
-    by : (s : Stop) → HasStopCause (λ m owed. IsRefusedFor source.path source.bytes.items owed) files before now s → HasStopCause (λ m owed. HasBad sources owed) files before now s
+    by : (s : Stop) → HasStopCause (λ m owed. IsRefusedFor source.path source.text owed) files before now s → HasStopCause (λ m owed. HasBad sources owed) files before now s
     by stops.ReadFault c = c
     by stops.OutOfMemory c = tt
     by (stops.Refused owed line) c = (told files c.0 (λ m refused. record { front = done; source = source; behind = behind; parts = parts; none_bad = none_bad parsed done are read; refused = refused }), c.1)

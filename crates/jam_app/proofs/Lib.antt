@@ -18,3 +18,4 @@ pub mod Telling
 pub mod Whole
 pub mod WholeGraph
 pub mod Wide
+pub mod Within

@@ -66,7 +66,7 @@ into_led : (offset : ℕ) (t : Target) (led : Led) → offset ≡ led.offset →
 into_led offset t led o is = ap (λ t. led_to offset (module_path t)) is ∙ (λ i. Some (record { offset = o i; path = led.path }))
 
 -- what is kept of a module is all right
-pub is_read : (m : Files) (l : Loaded) → IsOnlyTree l.bytes.items l.tree → IsSummaryOf l.tree l.summary → l.targets.items ≡ filter_map (led_by m l.path) l.summary.lists.requires_ → IsRead m l
+pub is_read : (m : Files) (l : Loaded) → IsOnlyTree l.text l.tree → IsSummaryOf l.tree l.summary → l.targets.items ≡ filter_map (led_by m l.path) l.summary.lists.requires_ → IsRead m l
 is_read m l only summary targets =
     let f = led_by m l.path in
     let requires_ : l.summary.lists.requires_ ≡ requires_of l.tree = ap (λ (c : ModuleConstraints). c.requires_) summary.whole in

@@ -7,7 +7,7 @@ use Rattle.jam_app.specs.declared.answers.refusal.Refusal.{Refusal}
 use Rattle.jam_app.specs.declared.answers.refusal.Refusal.TheVariants as refusal
 use Rattle.jam_app.specs.declared.answers.status.Status.{Status}
 use Rattle.jam_app.specs.declared.answers.status.Status.TheVariants as status
-use Rattle.jam_app.specs.Lines.{IsRefusalText, IsTold, TellsRefusal, TellsStatus, no_entry, not_in_profile_line, text_of, too_large_line, too_many_line, too_wide_line}
+use Rattle.jam_app.specs.Lines.{IsRefusalText, IsTold, TellsRefusal, TellsStatus, construct_line, no_entry, not_in_profile_line, text_of, too_large_line, too_many_line, too_wide_line}
 use Rattle.jam_app.specs.Written.{TakesFront}
 
 nothing_taken : (n : ℕ) → take n (let none : List ℕ = [] in none) ≡ []
@@ -24,6 +24,8 @@ refusal_text : (owed : Refusal) → (text : List ℕ) × IsRefusalText owed text
 refusal_text refusal.NoEntry = (no_entry, refl)
 refusal_text (refusal.TooMany modules bytes) = (too_many_line modules bytes, refl)
 refusal_text (refusal.TooLarge path n) = (too_large_line path n, refl)
+refusal_text (refusal.Construct path at what) =
+    let place : Place = record { offset = at; line = 1; column = 1 } in (construct_line path 1 1 what, (place, refl, refl))
 refusal_text (refusal.NotInProfile path at) =
     let place : Place = record { offset = at; line = 1; column = 1 } in (not_in_profile_line path 1 1, (place, refl, refl))
 refusal_text (refusal.TooWide size) = (too_wide_line size, refl)

@@ -20,7 +20,7 @@ use Rattle.jam_app.specs.declared.loading.loaded.Loaded.{Loaded}
 use Rattle.jam_app.specs.Graphs.{IsGraphText, constraints_all}
 use Rattle.jam_app.specs.Loading.{IsAnalysed, IsKept, IsWhole, loaded_size, module_of, part_of}
 use Rattle.jam_app.specs.Refusals.{IsRefusal, IsTooWide, load, too_wide}
-use Rattle.jam_app.specs.Rounds.{IsApplication, IsModuleOf, IsTreeOf, LoadedModule, bytes_at, spelled, bad}
+use Rattle.jam_app.specs.Rounds.{IsApplication, IsModuleOf, IsTreeOf, LoadedModule, text_at, spelled, bad}
 use Rattle.jam_app.specs.Stops.{CountsFaults, Gives, HasStopCause, IsOwed, KeepsCount, Refuses, StopsWide}
 use Rattle.jam_app.proofs.Causes.{refused_stop, told}
 use Rattle.jam_app.proofs.WholeGraph.{constraints_same}
@@ -58,12 +58,12 @@ parts_size loaded all = ap (λ n. 100 + n) (sums loaded all)
 -- an application has one list of modules, where each text has one tree
 module _ (files : Files) where
   one_module : (l : Loaded) (m : LoadedModule) → m.path ≡ l.path → IsKept files l → IsModuleOf files (module_of l) → IsModuleOf files m → m ≡ module_of l
-  one_module l m path kept here there = λ i. record { path = path i; bytes = bytes i; tree = tree (subst (λ bs. IsTreeOf bs m.tree) bytes there.tree) i }
+  one_module l m path kept here there = λ i. record { path = path i; text = text i; tree = tree (subst (λ t. IsTreeOf t m.tree) text there.tree) i }
     where
-      bytes : m.bytes ≡ l.bytes.items
-      bytes = there.bytes ∙ ap (bytes_at files) path ∙ sym here.bytes
+      text : m.text ≡ l.text
+      text = there.text ∙ ap (text_at files) path ∙ sym here.text
 
-      tree : IsTreeOf l.bytes.items m.tree → m.tree ≡ l.tree
+      tree : IsTreeOf l.text m.tree → m.tree ≡ l.tree
       tree (spelled s) = kept.only.only m.tree s
       tree (bad b e) = absurd (b l.tree kept.only.spelled)
 

@@ -25,7 +25,7 @@ abbrev pub shown_at : List ℕ → List ℕ → FunctionInfo → Shown
 shown_at path text f = record { path = path; line = (place_at text f.start).line; column = (place_at text f.start).column; name = f.name }
 
 abbrev pub shown_in : LoadedModule → FunctionInfo → Shown
-shown_in m = shown_at m.path m.bytes
+shown_in m = shown_at m.path m.text
 
 -- the function with this number of a module, as it is printed
 abbrev pub shown_number : ℕ → LoadedModule → Shown
@@ -37,7 +37,7 @@ shown_function modules f = elim (slice_get modules f.module) [ None ↦ nowhere 
 
 -- a call of this function at an offset of a module, as it is printed
 abbrev pub shown_call : ℕ → Shown → LoadedModule → PathStep
-shown_call offset callee m = record { path = m.path; line = (place_at m.bytes offset).line; column = (place_at m.bytes offset).column; callee = callee }
+shown_call offset callee m = record { path = m.path; line = (place_at m.text offset).line; column = (place_at m.text offset).column; callee = callee }
 
 -- a call edge between functions of the modules, as it is printed
 abbrev pub shown_edge : List LoadedModule → Edge → PathStep

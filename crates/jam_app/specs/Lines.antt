@@ -3,11 +3,13 @@ use Rattle.std.specs.Prelude.{◌≡◌, ℕ, List, [], ◌++◌, codes}
 use Rattle.std.specs.Fmt.{decimal}
 use Rattle.js_tree.specs.Spells.{limit}
 use Rattle.jam_base.specs.declared.place.Place.{Place}
+use Rattle.js_parser.specs.Answers.{word_of}
+use Rattle.js_parser.specs.declared.fault.Construct.{Construct as AnyConstruct}
 use Rattle.report_text.specs.Escape.{escaped}
 use Rattle.jam_app.specs.declared.answers.line.Line.{Line}
 use Rattle.jam_app.specs.declared.answers.line.Line.TheVariants.{Nothing, Fixed, Made}
 use Rattle.jam_app.specs.declared.answers.refusal.Refusal.{Refusal}
-use Rattle.jam_app.specs.declared.answers.refusal.Refusal.TheVariants.{NoEntry, TooMany, TooLarge, NotInProfile, TooWide}
+use Rattle.jam_app.specs.declared.answers.refusal.Refusal.TheVariants.{NoEntry, TooMany, TooLarge, Construct, NotInProfile, TooWide}
 use Rattle.jam_app.specs.declared.answers.status.Status.{Status}
 use Rattle.jam_app.specs.declared.answers.status.Status.TheVariants.{Clean, Alarms, Refused, ReadFault, WriteFault, NoMemory, Usage}
 
@@ -40,6 +42,9 @@ too_large_line path n = too_large_text (escaped path) n
 abbrev pub place_text : List ℕ → ℕ → ℕ → List ℕ
 place_text path line column = escaped path ++ (codes ":" ++ (decimal line ++ (codes ":" ++ decimal column)))
 
+abbrev pub construct_line : List ℕ → ℕ → ℕ → AnyConstruct → List ℕ
+construct_line path line column what = codes "jam: " ++ (place_text path line column ++ (codes ": " ++ (word_of what ++ codes "\n")))
+
 abbrev pub not_in_profile_line : List ℕ → ℕ → ℕ → List ℕ
 not_in_profile_line path line column = codes "jam: " ++ (place_text path line column ++ codes ": not in the profile\n")
 
@@ -51,6 +56,7 @@ abbrev pub IsRefusalText : Refusal → List ℕ → Type 0
 IsRefusalText NoEntry text = text ≡ no_entry
 IsRefusalText (TooMany modules bytes) text = text ≡ too_many_line modules bytes
 IsRefusalText (TooLarge path n) text = text ≡ too_large_line path n
+IsRefusalText (Construct path at what) text = (place : Place) × (place.offset ≡ at) × (text ≡ construct_line path place.line place.column what)
 IsRefusalText (NotInProfile path at) text = (place : Place) × (place.offset ≡ at) × (text ≡ not_in_profile_line path place.line place.column)
 IsRefusalText (TooWide size) text = text ≡ too_wide_line size
 

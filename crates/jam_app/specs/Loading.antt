@@ -6,6 +6,7 @@ use Rattle.std.specs.declared.cmp.Ordering.{Ordering}
 use Rattle.flow_fold.specs.Folds.{Folds}
 use Rattle.flow_fold.specs.Summaries.{ModuleSummary}
 use Rattle.js_tree.specs.declared.tree.Tree.{Tree}
+use Rattle.js_tree.specs.Spells.{Spells}
 use Rattle.jam_base.specs.Files.{Files}
 use Rattle.flow_rules.specs.declared.module.Require.{Require}
 use Rattle.flow_rules.specs.Flows.{constraints_of, requires_of}
@@ -19,11 +20,11 @@ use Rattle.jam_app.specs.declared.answers.refusal.Refusal.{Refusal}
 use Rattle.jam_app.specs.Entries.{entry_path}
 use Rattle.jam_app.specs.Refusals.{IsLoadRefusal}
 use Rattle.jam_app.specs.Rounds.{LoadedModule, IsApplication}
-use Rattle.jam_app.specs.Texts.{IsOnlyTree, IsSpelled}
+use Rattle.jam_app.specs.Texts.{IsOnlyTree}
 
 -- the module
 abbrev pub module_of : Loaded → LoadedModule
-module_of l = record { path = l.path; bytes = l.bytes.items; tree = l.tree }
+module_of l = record { path = l.path; text = l.text; tree = l.tree }
 
 -- the summary folds the constraints of the tree, and keeps their flows
 pub record IsSummaryOf (tree : Tree) (s : ModuleSummary) : Type 0 where
@@ -41,7 +42,7 @@ pub record AreLed (requires_ : List Require) (targets : List Led) : Type 0 where
 
 -- the text of the module has its tree, which this is the summary of, and the targets are those of its requires
 pub record IsAnalysed (l : Loaded) : Type 0 where
-  pub spelled : IsSpelled l.bytes.items l.tree
+  pub spelled : Spells l.text l.tree
   pub summary : IsSummaryOf l.tree l.summary
   pub led : AreLed l.summary.lists.requires_ l.targets.items
 
@@ -62,7 +63,7 @@ pub record Leads (files : Files) (l : Loaded) (led : Led) : Type 0 where
 
 -- what is kept of the module: its text has the tree and no other, which this is the summary of, and these are the targets of its requires that are modules
 pub record IsKept (files : Files) (l : Loaded) : Type 0 where
-  pub only : IsOnlyTree l.bytes.items l.tree
+  pub only : IsOnlyTree l.text l.tree
   pub summary : IsSummaryOf l.tree l.summary
   pub targets : (led : Led) → Contains l.targets.items led ↔ Leads files l led
 

@@ -1,8 +1,8 @@
--- What reading a round finds: its files, their trees, where their requires lead, and the refusals for them.
+-- What reading a round finds: its texts, their trees, where their requires lead, and the refusals for them.
 use Rattle.std.specs.Prelude.{◌≡◌, ◌<◌, ℕ, List, [], map, All, Some, None, ◌+◌, ◌≤◌, ◌∷◌, ◌++◌, length, Option}
 use Rattle.jam_app.specs.declared.loading.loaded.Led.{Led}
 use Rattle.jam_app.specs.declared.loading.loaded.Loaded.{Loaded}
-use Rattle.jam_app.specs.Rounds.{bytes_at, total_bytes, Fits}
+use Rattle.jam_app.specs.Rounds.{text_at, total_bytes, Fits}
 use Rattle.jam_app.specs.Texts.{IsBad, IsOnlyTree}
 use Rattle.js_tree.specs.Spells.{limit}
 use Rattle.jam_base.specs.Files.{Files}
@@ -14,19 +14,20 @@ use Rattle.jam_app.specs.declared.answers.refusal.Refusal.TheVariants as refusal
 use Rattle.jam_app.specs.declared.loading.size.Size.{Size}
 use Rattle.jam_app.specs.declared.loading.source.Source.{Source}
 use Rattle.jam_app.specs.Entries.{module_path}
-use Rattle.jam_app.specs.Refusals.{IsRefusedAt, counted_bytes}
+use Rattle.js_parser.specs.declared.fault.Construct.{Construct}
+use Rattle.jam_app.specs.Refusals.{IsConstructAt, IsRefusedAt, counted_bytes}
 use Rattle.jam_app.specs.Loading.{IsKept}
 
--- how many modules these are, and how many bytes their files have together
+-- how many modules these are, and how many bytes their texts have together
 abbrev pub size_of : Files → List (List ℕ) → Size
 size_of files paths = record { modules = length paths; bytes = total_bytes files paths }
 
--- a path, and the bytes of the file there
+-- a path, and the text of the file there
 abbrev pub file_at : Files → List ℕ → List ℕ × List ℕ
-file_at files path = (path, bytes_at files path)
+file_at files path = (path, text_at files path)
 
 abbrev pub file_of : Source → List ℕ × List ℕ
-file_of source = (source.path, source.bytes.items)
+file_of source = (source.path, source.text)
 
 -- the refusal for the module at the path, which is one too many behind the earlier ones
 pub record IsExcess (files : Files) (earlier : List (List ℕ)) (path : List ℕ) (owed : Refusal) : Type 0 where
@@ -43,9 +44,10 @@ pub record HasExcess (files : Files) (earlier paths : List (List ℕ)) (owed : R
   pub excess : IsExcess files (earlier ++ front) path owed
 
 -- the refusal for a module that has no tree
-pub data IsRefusedFor (path bytes : List ℕ) : Refusal → Type 0 where
-  too_large : limit < length bytes → IsRefusedFor path bytes (refusal.TooLarge path (length bytes))
-  not_in_profile : (at : ℕ) → IsBad bytes → length bytes ≤ limit → IsRefusedAt bytes at → IsRefusedFor path bytes (refusal.NotInProfile path at)
+pub data IsRefusedFor (path text : List ℕ) : Refusal → Type 0 where
+  too_large : limit < length text → IsRefusedFor path text (refusal.TooLarge path (length text))
+  construct : (at : ℕ) (what : Construct) → IsBad text → length text ≤ limit → IsConstructAt text at what → IsRefusedFor path text (refusal.Construct path at what)
+  not_in_profile : (at : ℕ) → IsBad text → length text ≤ limit → IsRefusedAt text at → IsRefusedFor path text (refusal.NotInProfile path at)
 
 -- the refusal for the first of the modules that has no tree
 pub record HasBad (sources : List Source) (owed : Refusal) : Type 0 where
@@ -53,12 +55,12 @@ pub record HasBad (sources : List Source) (owed : Refusal) : Type 0 where
   pub source : Source
   pub behind : List Source
   pub parts : sources ≡ front ++ source ∷ behind
-  pub none_bad : All (λ s. IsBad s.bytes.items → ⊥) front
-  pub refused : IsRefusedFor source.path source.bytes.items owed
+  pub none_bad : All (λ s. IsBad s.text → ⊥) front
+  pub refused : IsRefusedFor source.path source.text owed
 
 -- the tree is the only one of the text
 abbrev pub IsParsed : Parsed → Type 0
-IsParsed p = IsOnlyTree p.source.bytes.items p.tree
+IsParsed p = IsOnlyTree p.source.text p.tree
 
 -- where a require leads, if to a module
 abbrev pub led_to : ℕ → Option (List ℕ) → Option Led
@@ -70,12 +72,12 @@ led_by files from require = led_to require.offset (module_path (target_of files 
 
 -- the file of a loaded module
 abbrev pub source_of : Loaded → Source
-source_of l = record { path = l.path; bytes = l.bytes }
+source_of l = record { path = l.path; text = l.text }
 
 -- what is kept of a module is all right, and its tree is the only one
 pub record IsRead (files : Files) (l : Loaded) : Type 0 where
   pub kept : IsKept files l
-  pub only : IsOnlyTree l.bytes.items l.tree
+  pub only : IsOnlyTree l.text l.tree
 
 -- the paths of the modules that these require, in order
 abbrev pub led_from : Loaded → List (List ℕ)

@@ -4,8 +4,8 @@ ghost use Rattle.jam_base.specs.Files.{Files};
 ghost use Rattle.jam_app.specs.declared.answers.refusal.Refusal.{Refusal as AnyRefusal};
 ghost use Rattle.jam_app.specs.Refusals.{IsRefusal, without_place};
 
-/// An operand over the same files has at most one refusal, but for the place at which the text of a
-/// module was left.
+/// An operand over the same files has at most one refusal, but for the place at which a text outside
+/// the profile was left, and the construct that is named there.
 pub fn one_refusal()
     ensures { (operand : List ℕ) (files : Files) (one other : AnyRefusal) → IsRefusal operand files one → IsRefusal operand files other → without_place one ≡ without_place other }
 {}

@@ -1,6 +1,5 @@
 //! The call edges of an application, as they are printed.
 ghost use Rattle.std.specs.Prelude.{◌≡◌, ◌≤◌, ◌<◌, ◌++◌, ℕ, List, length, map, take, slice_get, None, Some, All, IfErr, IfOk, OnOk};
-ghost use Rattle.std.specs.Str.{IsAscii};
 ghost use Rattle.jam_base.specs.Files.{Files};
 ghost use Rattle.jam_app.specs.Graphs as graphs;
 ghost use Rattle.composer.specs.Sizes.{size_limit};
@@ -61,20 +60,8 @@ fn printed_module(alloc: Global, one: &Loaded) -> Result<Printed, OutOfMemory>
     requires { IsAnalysed one.now }
     ensures { IfOk result (λ printed. printed ≡ printed_of (module_of one.now)) }
 {
-    let text = ascii(one.bytes.as_slice());
     let functions = one.summary.functions();
-    Printed::of(alloc, one.path.as_str(), text, functions)
-}
-
-// The text of bytes that are ASCII.
-fn ascii(bytes: &[u8]) -> &str
-    requires { IsAscii bytes.now }
-    ensures { result.now ≡ bytes.now }
-{
-    match str::from_utf8(bytes) {
-        Ok(text) => text,
-        Err(_) => "",
-    }
+    Printed::of(alloc, one.path.as_str(), one.text.as_str(), functions)
 }
 
 // The edges, as they are printed. Edges of one module that stand together take one walk over its text.

@@ -1,14 +1,14 @@
 //! A module that is loaded.
 use flow_fold::Summary;
-use jam_base::ModulePath;
+use jam_base::{ModulePath, Text};
 use js_tree::Tree;
 
-/// A loaded module: its path, the bytes of its file, its tree, what is kept of what the tree says of its
+/// A loaded module: its path, the text of its file, its tree, what is kept of what the tree says of its
 /// values, and where its requires lead, by their offsets.
 #[derive(Debug, Drop)]
 pub(crate) struct Loaded {
     pub(crate) path: ModulePath,
-    pub(crate) bytes: Vec<u8>,
+    pub(crate) text: Text,
     pub(crate) tree: Tree,
     pub(crate) summary: Summary,
     pub(crate) targets: Vec<Led>,

@@ -12,7 +12,7 @@ ghost use Rattle.jam_app.specs.Reading.{HasBad, IsParsed, IsRead, IsRefusedFor, 
 ghost use Rattle.jam_app.specs.Stops.{CountsFaults, Gives, HasStopCause, StopsFor};
 
 use crate::Stop;
-use crate::answers::message::{not_in_profile, too_large};
+use crate::answers::message::{at_construct, not_in_profile, too_large};
 use crate::loading::loaded::{Led, Loaded};
 use crate::loading::source::{Source, module_path};
 use crate::loading::text::{Bad, tree_of};
@@ -96,6 +96,7 @@ fn stop_for(alloc: Global, path: ModulePath, bad: Bad) -> Stop
 {
     match bad {
         Bad::TooLarge(length) => too_large(alloc, path, length),
+        Bad::Construct(place, what) => at_construct(alloc, path, place, what),
         Bad::At(place) => not_in_profile(alloc, path, place),
         Bad::OutOfMemory => Stop::OutOfMemory,
     }
@@ -115,9 +116,9 @@ fn parsed_file<L: Ledger>(
     steps: &mut Steps<L>,
 ) -> Result<Parsed, Stop>
     ensures ok { IfOk result (λ p. (p.source ≡ source) × IsParsed p) }
-    ensures err { IfErr result (λ stop. (files : Option Files) (before now : ℕ) → HasStopCause (λ m owed. IsRefusedFor source.path source.bytes.items owed) files before now stop) }
+    ensures err { IfErr result (λ stop. (files : Option Files) (before now : ℕ) → HasStopCause (λ m owed. IsRefusedFor source.path source.text owed) files before now stop) }
 {
-    match tree_of(alloc, source.bytes.as_slice(), steps) {
+    match tree_of(alloc, source.text.as_str(), steps) {
         Ok(tree) => Ok(Parsed { source, tree }),
         Err(bad) => Err(stop_for(alloc, source.path, bad)),
     }
@@ -152,10 +153,10 @@ fn module_with<F: Folder>(alloc: Global, folder: &mut F, parsed: Parsed) -> Resu
     let requires_ = summary.requires_();
     let targets = targets_of(alloc, folder, &parsed.source.path, requires_)?;
     let Parsed { source, tree } = parsed;
-    let Source { path, bytes } = source;
+    let Source { path, text } = source;
     Ok(Loaded {
         path,
-        bytes,
+        text,
         tree,
         summary,
         targets,

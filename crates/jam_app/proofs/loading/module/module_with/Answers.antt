@@ -10,4 +10,4 @@ returns-clause-gives g c =
     told (g.F.Folder.files c.args.folder.now) c.in_ok-targets.ensures.gives (λ m targets. (refl, is_read m _ c.requires c.in_ok-summary.ensures (targets ∙ ap (filter_map (led_by m c.args.parsed.source.path)) c.requires_-requires_.ensures.requires_)))
 
 pub summary_of-requires : goal.summary_of-requires
-summary_of-requires g c = (c.args.parsed.source.bytes.items, c.requires.spelled.spells)
+summary_of-requires g c = (c.args.parsed.source.text, c.requires.spelled)

@@ -5,5 +5,5 @@ use Rattle.jam_app.proofs.loading.module.parsed_file.Goals as goal
 
 pub returns-in-Err-clause-err : goal.returns-in-Err-clause-err
 returns-in-Err-clause-err g c files before now =
-    bad_stop c.args.source.path c.args.source.bytes.items c.in-Err.bad files before now _
-    (subst (λ (bytes : List ℕ). HasBadCause bytes c.in-Err.bad) c.as_slice.ensures.value c.in-Err.ensures) c.stop_for.ensures
+    bad_stop c.args.source.path c.args.source.text c.in-Err.bad files before now _
+    (subst (λ (text : List ℕ). HasBadCause text c.in-Err.bad) c.as_str.ensures c.in-Err.ensures) c.stop_for.ensures
