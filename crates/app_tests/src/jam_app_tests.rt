@@ -119,19 +119,180 @@ fn a_text_is_taken_or_refused_at_its_place(rt: HostRuntime) -> Result<(), Fail> 
             2,
             "jam: index.js:3:4: not in the profile\n",
         ),
+        // U+00E9 is a name, and U+20AC begins no token.
         (
             b"f(); \xc3\xa9".as_slice(),
             2,
-            "jam: index.js:1:1: not in the profile\n",
+            "jam: index.js:1:7: not in the profile\n",
+        ),
+        (
+            b"f(); \xe2\x82\xac".as_slice(),
+            2,
+            "jam: index.js:1:6: not in the profile\n",
         ),
         (
             b"\xff".as_slice(),
             2,
             "jam: index.js:1:1: not in the profile\n",
         ),
+        // The front U+FEFF goes, and only that one: the next one is white space.
+        (b"\xef\xbb\xbff();".as_slice(), 0, ""),
+        (
+            b"\xef\xbb\xbff(".as_slice(),
+            2,
+            "jam: index.js:1:3: not in the profile\n",
+        ),
+        (b"\xef\xbb\xbf\xef\xbb\xbf".as_slice(), 0, ""),
+        (
+            b"\xef\xbb\xbf\xef\xbb\xbf?".as_slice(),
+            2,
+            "jam: index.js:1:2: not in the profile\n",
+        ),
+        // Each byte that begins nothing is a character, and so is the front of one that breaks off.
+        (b"require(\"./\xff\xff\");".as_slice(), 0, ""),
+        (
+            b"require(\"./\xff\xff\"); ?".as_slice(),
+            2,
+            "jam: index.js:1:18: not in the profile\n",
+        ),
+        (
+            b"require(\"./\xe2\x82\"); ?".as_slice(),
+            2,
+            "jam: index.js:1:17: not in the profile\n",
+        ),
+        // Greek letters in a string.
+        (
+            b"require(\"./\xce\xbb\xcf\x8c\xce\xb3\xce\xbf\xcf\x82\"); ?".as_slice(),
+            2,
+            "jam: index.js:1:21: not in the profile\n",
+        ),
     ] {
         let mut bench = set_up(alloc, "index.js", text, 0, 99)?;
         let words = words_of(alloc, "graph ./a/../index.js")?;
+        let status = ran::<HostRuntime, Brand>(
+            &rt,
+            alloc,
+            &mut bench,
+            words.as_slice(),
+            Blank::new(1),
+        );
+        compare(&rt, &bench, &status, number, "", err);
+    }
+    Ok(())
+}
+
+#[test]
+fn a_construct_is_refused_by_its_name(rt: HostRuntime) -> Result<(), Fail> {
+    let alloc = rt.alloc();
+    for (text, number, err) in [
+        ("eval(\"x\");", 2, "jam: index.js:1:1: eval\n"),
+        ("f();\n  eval /* x */ (g);", 2, "jam: index.js:2:3: eval\n"),
+        ("with (a) b();", 2, "jam: index.js:1:1: with\n"),
+        ("import x from \"y\";", 2, "jam: index.js:1:1: import\n"),
+        ("f(import(\"x\"));", 2, "jam: index.js:1:3: import\n"),
+        ("// x\nexport var a = 1;", 2, "jam: index.js:2:1: export\n"),
+        // The words stand for other things too.
+        ("(0, eval)(\"x\");", 0, ""),
+        ("eval; a.eval(\"x\"); a.with.import.export;", 0, ""),
+        // A name that begins with a word is a name.
+        ("eval2 x;", 2, "jam: index.js:1:7: not in the profile\n"),
+    ] {
+        let mut bench = set_up(alloc, "index.js", text.as_bytes(), 0, 99)?;
+        let words = words_of(alloc, "graph index.js")?;
+        let status = ran::<HostRuntime, Brand>(
+            &rt,
+            alloc,
+            &mut bench,
+            words.as_slice(),
+            Blank::new(1),
+        );
+        compare(&rt, &bench, &status, number, "", err);
+    }
+    Ok(())
+}
+
+#[test]
+fn texts_are_taken_whatever_they_are_written_in(rt: HostRuntime) -> Result<(), Fail> {
+    let alloc = rt.alloc();
+    for (text, out) in [
+        // A comment in every gap.
+        (
+            "/**/function/**/f/**/(/**/a/**/,/**/b/**/)/**/{/**/return/**/a/**/./**/g/**/(/**/b/**/)/**/;/**/}/**/\n/**/f/**/(/**/)/**/;//".as_bytes(),
+            "index.js:2:10 -> index.js:1:5 f\n",
+        ),
+        (
+            b"#!/usr/bin/env node\nf();\nfunction f() { }\n".as_slice(),
+            "index.js:2:2 -> index.js:3:1 f\n",
+        ),
+        (
+            b"// a\r\nfunction f() { }\r\nf();\r\n".as_slice(),
+            "index.js:3:2 -> index.js:2:1 f\n",
+        ),
+        (
+            "// a\u{2028}function f() { }\u{2028}f();".as_bytes(),
+            "index.js:3:2 -> index.js:2:1 f\n",
+        ),
+        // Greek names, and one with U+200D.
+        (
+            "function αβγ() { }\nαβγ();".as_bytes(),
+            "index.js:2:4 -> index.js:1:1 αβγ\n",
+        ),
+        (
+            "function a\u{200d}b() { }\na\u{200d}b();".as_bytes(),
+            "index.js:2:4 -> index.js:1:1 a\u{200d}b\n",
+        ),
+        (
+            b"require(\"\\x2e/a\");".as_slice(),
+            "index.js:1:8 -> a.js:1:1 <module>\n",
+        ),
+        (
+            b"\xef\xbb\xbff(); function f() { }".as_slice(),
+            "index.js:1:2 -> index.js:1:6 f\n",
+        ),
+        // In a comment stands a byte that begins nothing, and the front of a character that breaks off.
+        (
+            b"/* \xff\xe2\x82 */ f(); function f() { }".as_slice(),
+            "index.js:1:11 -> index.js:1:15 f\n",
+        ),
+    ] {
+        let mut bench = set_up(alloc, "index.js", text, 0, 99)?;
+        let other = ModulePath::read(alloc, "a.js")?.ok_or("path")?;
+        bench.folder.add(other, b"".to_vec(alloc)?)?;
+        let words = words_of(alloc, "graph index.js")?;
+        let status = ran::<HostRuntime, Brand>(
+            &rt,
+            alloc,
+            &mut bench,
+            words.as_slice(),
+            Blank::new(1),
+        );
+        compare(&rt, &bench, &status, 0, out, "");
+    }
+    Ok(())
+}
+
+// A name in so many round brackets, as a statement.
+fn nested(alloc: Global, count: u32) -> Result<String, Fail> {
+    let mut text = String::new(alloc);
+    for _ in 0..count {
+        text.push_str("(")?;
+    }
+    text.push_str("x")?;
+    for _ in 0..count {
+        text.push_str(")")?;
+    }
+    text.push_str(";")?;
+    Ok(text)
+}
+
+#[test]
+fn brackets_may_nest_254_times(rt: HostRuntime) -> Result<(), Fail> {
+    let alloc = rt.alloc();
+    let refused = "jam: index.js:1:256: not in the profile\n";
+    for (count, number, err) in [(254, 0, ""), (255, 2, refused)] {
+        let text = nested(alloc, count)?;
+        let mut bench = set_up(alloc, "index.js", text.as_bytes(), 0, 99)?;
+        let words = words_of(alloc, "graph index.js")?;
         let status = ran::<HostRuntime, Brand>(
             &rt,
             alloc,
@@ -253,6 +414,10 @@ fn calls_have_edges_to_what_their_names_declare(rt: HostRuntime) -> Result<(), F
         (
             "require();\nfunction require() { }\n",
             "index.js:1:8 -> index.js:2:1 require\n",
+        ),
+        (
+            "require(\"./λ\"); f();\nfunction f() { require(\"./λ\"); f(); }\n",
+            "index.js:1:18 -> index.js:2:1 f\nindex.js:2:33 -> index.js:2:1 f\n",
         ),
         (
             "function f() { f(); }\nfunction g() { h(); }\nfunction h() { g(); }\n",

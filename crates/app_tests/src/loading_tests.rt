@@ -31,6 +31,7 @@ fn around(alloc: Global, b: &str) -> Result<Bench, Fail> {
             ("c.js", ""),
             ("a/e.js", "require(\"../c\");"),
             ("f.json", "?"),
+            ("λ.js", ""),
             ("bad.js", "\n  ?"),
             ("a/bad.js", "?"),
         ],
@@ -55,6 +56,12 @@ fn modules_are_loaded_from_round_to_round(rt: HostRuntime) -> Result<(), Fail> {
         (
             "require(\"./d\"); require(\"../c\");",
             "index.js:1:8 -> b.js:1:1 <module>\n",
+        ),
+        // A name that is not ASCII.
+        (
+            "require(\"./λ\"); require(\"./c\");",
+            "b.js:1:8 -> λ.js:1:1 <module>\nb.js:1:24 -> c.js:1:1 <module>\n\
+             index.js:1:8 -> b.js:1:1 <module>\n",
         ),
         // The target of a require in a folder, and a file that is no code.
         (
@@ -129,9 +136,10 @@ fn a_module_may_have_8388608_bytes(rt: HostRuntime) -> Result<(), Fail> {
             "",
             "jam: b.js: 8388609 bytes, more than 8388608\n",
         ),
+        // A byte that begins nothing is a character of three bytes.
         (
             255,
-            8_388_609,
+            2_796_203,
             2,
             "",
             "jam: b.js: 8388609 bytes, more than 8388608\n",

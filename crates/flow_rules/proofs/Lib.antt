@@ -1,9 +1,16 @@
 pub mod CallRules
+pub mod FlowsThere
 pub mod Keeping
 pub mod Lengths
+pub mod MeantFunctions
+pub mod NodesOfTree
 pub mod Ones
 pub mod Order
 pub mod Places
+pub mod RowItems
 pub mod RuleLemmas
+pub mod ShortNames
 pub mod SortedLemmas
 pub mod ValueLemmas
+pub mod ValueTexts
+pub mod ValuesThere

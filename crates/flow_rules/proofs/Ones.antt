@@ -1,19 +1,33 @@
 -- What there is one of at most, and the numbers of functions.
-use Rattle.std.proofs.Common.{◌≡◌, ℕ, zero, suc, ◌+◌, ◌<◌, ◌≤◌, inl, inr, Bool, true, false, nat_eq, nat_lt, ◌==◌, ◌&&◌, List, [], ◌∷◌, length, refl, sym, ap, ◌∙◌, subst, Option, Some, None, is_some, if◌then◌else◌, arith}
-use Rattle.std.specs.Prelude.{Contains}
+use Rattle.std.proofs.Common.{◌≡◌, ℕ, zero, suc, ◌+◌, ◌<◌, ◌≤◌, inl, inr, Bool, true, false, nat_eq, nat_lt, ◌==◌, ◌&&◌, List, [], ◌∷◌, length, refl, sym, ap, ◌∙◌, subst, Option, Some, None, if◌then◌else◌, arith}
+use Rattle.std.specs.Prelude.{Contains, slice_index_or}
+use Rattle.std.specs.List.Sorted.{IsStrictlySortedBy}
+use Rattle.std.specs.Ordering.{nat_cmp}
+use Rattle.std.specs.declared.cmp.Ordering.TheVariants.{Less}
+use Rattle.js_scopes.specs.Scopes.{function_order}
 use Rattle.std.specs.List.{AllByRecursion, count_by, flat_map}
 use Rattle.std.proofs.lemmas.Bool.Decides.{Decides-ltb, nat_tests}
+use Rattle.std.proofs.lemmas.Cmp.{ranked}
 use Rattle.std.proofs.lemmas.List.Elements.{All-contains_itself, recursion_from_All}
 use Rattle.std.proofs.lemmas.List.Sums.{count_by-le-length}
 use Rattle.js_tree.specs.declared.token.Token.{Token}
-use Rattle.js_tree.specs.declared.tree.Tail.TheVariants as tail
-use Rattle.js_tree.specs.Parts.{Node, AnExpr, AFunction, APattern, AStmt, ASlot, ATail, ABody, items_in, parts}
-use Rattle.js_tree.specs.Tokens.{IsInText, IsOfText, own_tokens, tokens_in}
+use Rattle.js_tree.specs.declared.lists.Tail.TheVariants as tail
+use Rattle.js_tree.specs.declared.tree.Expr.{out-Expr}
+use Rattle.js_tree.specs.declared.tree.Expr.TheOpen.{Expr-F, Function-F}
+use Rattle.js_tree.specs.declared.tree.Function.{out-Function}
+use Rattle.js_tree.specs.Folds.{ExprLayer, FunctionLayer}
+use Rattle.js_tree.specs.Line.{items}
+use Rattle.js_tree.specs.Parts.{Node, AnExpr, AFunction, ATail, parts}
+use Rattle.js_tree.specs.Spelling.Expressions.{expr_row}
+use Rattle.js_tree.specs.Spelling.Functions.{function_row}
+use Rattle.js_tree.specs.Tokens.{IsInText, IsOfText, own_tokens, tokens_among, tokens_in}
 use Rattle.js_tree.proofs.GatherLemmas.{each_front}
 use Rattle.js_tree.proofs.TokenLemmas.{tokens_are}
 use Rattle.js_scopes.specs.declared.function.FunctionInfo.{FunctionInfo}
 use Rattle.js_scopes.specs.declared.site.SiteInfo.{SiteInfo}
-use Rattle.js_scopes.specs.Scopes.{Known, call_sites, first_string, is_reflected, is_require_alone, last_member, own_sites, passed_on}
+use Rattle.js_scopes.specs.Brackets.{elements, placed}
+use Rattle.js_scopes.specs.Calls.{Known, call_sites, is_reflected, is_required, last_member, made_with, own_sites, passed_on, sites_of_expr, unrequired_sites}
+use Rattle.js_scopes.specs.Functions.{info_in, own_functions}
 use Rattle.js_scopes.proofs.Counts.{count_cons, one_if}
 use Rattle.flow_rules.specs.Rules.{IsShort}
 use Rattle.flow_rules.proofs.SortedLemmas.{Some_in}
@@ -57,6 +71,22 @@ before x start e = by (nat_lt x start) refl
     by true h = absurd (omega (arith, e, (Decides-ltb x start).0 h))
     by false h = h
 
+not_before : (x start : ℕ) → start < x → nat_lt x start ≡ false
+not_before x start lt = by (nat_lt x start) refl
+  where
+    by : (b : Bool) → nat_lt x start ≡ b → nat_lt x start ≡ false
+    by true h = let l = (Decides-ltb x start).0 h in absurd (omega (arith, lt, l))
+    by false h = h
+
+-- what holds of each item holds of one
+All-at : {X : Type 0} (R : X → Type 0) (xs : List X) (x : X) → Contains xs x → AllByRecursion R xs → R x
+All-at R [] x (k, lt, e) a = absurd (omega (arith, lt))
+All-at R (y ∷ xs) x (zero, lt, e) a = subst R e a.0
+All-at R (y ∷ xs) x (suc k, lt, e) a = All-at R xs x (k, omega (arith, lt), e) a.1
+
+less_than : (x y : ℕ) → nat_cmp x y ≡ Less → x < y
+less_than x y e = ranked x y Less (sym e)
+
 pub count_below : (start : ℕ) (xs : List FunctionInfo) → Some_in (λ (f : FunctionInfo). f.start ≡ start) xs → count_by (λ (f : FunctionInfo). nat_lt f.start start) xs < length xs
 count_below start [] h = absurd h
 count_below start (x ∷ xs) (inl e) =
@@ -69,6 +99,37 @@ count_below start (x ∷ xs) (inr r) =
     at_most_one : (b : Bool) → one_if b ≤ 1
     at_most_one true = omega arith
     at_most_one false = omega arith
+
+-- in order, a function stands behind as many as start before it
+later : (x : FunctionInfo) (xs : List FunctionInfo) (start : ℕ) → x.start ≡ start → AllByRecursion (λ y. function_order x y ≡ Less) xs → count_by (λ (f : FunctionInfo). nat_lt f.start start) xs ≡ 0
+later x [] start e a = refl
+later x (y ∷ ys) start e a =
+    let p = λ (f : FunctionInfo). nat_lt f.start start in
+    let lt = less_than x.start y.start a.0 in
+    let b = count_cons p y ys in
+    let d = ap one_if (not_before y.start start (omega (arith, lt, e))) in
+    let r = later x ys start e a.1 in
+    omega (arith, b, d, r)
+
+pub at_count : (xs : List FunctionInfo) (f : FunctionInfo) → Contains xs f → IsStrictlySortedBy function_order xs → (d : FunctionInfo) → slice_index_or xs (count_by (λ (g : FunctionInfo). nat_lt g.start f.start) xs) d ≡ f
+unfolding IsStrictlySortedBy
+at_count [] f (k, lt, e) s d = absurd (omega (arith, lt))
+at_count (x ∷ xs) f (zero, lt, e) s d =
+    let p = λ (g : FunctionInfo). nat_lt g.start f.start in
+    let same : x.start ≡ f.start = ap (λ (g : FunctionInfo). g.start) e in
+    let a = count_cons p x xs in
+    let b = ap one_if (before x.start f.start same) in
+    let r = later x xs f.start same s.0 in
+    let none : count_by p (x ∷ xs) ≡ 0 = omega (arith, a, b, r) in
+    ap (λ k. slice_index_or (x ∷ xs) k d) none ∙ e
+at_count (x ∷ xs) f (suc k, lt, e) s d =
+    let p = λ (g : FunctionInfo). nat_lt g.start f.start in
+    let inside : Contains xs f = (k, omega (arith, lt), e) in
+    let less = less_than x.start f.start (All-at (λ y. function_order x y ≡ Less) xs f inside s.0) in
+    let a = count_cons p x xs in
+    let b = ap one_if ((Decides-ltb x.start f.start).1 less) in
+    let one : count_by p (x ∷ xs) ≡ suc (count_by p xs) = omega (arith, a, b) in
+    ap (λ n. slice_index_or (x ∷ xs) n d) one ∙ at_count xs f inside s.1 d
 
 pub both_true : (x y : Bool) → (x && y) ≡ true → (x ≡ true) × (y ≡ true)
 both_true true y e = (refl, e)
@@ -118,14 +179,54 @@ calls_once offset part holder member start count = by member
     by None = of_other false []
     by (Some name) = of_other (is_reflected name) name
 
+-- the first of some tokens counts where it starts
+first_counts : (offset : ℕ) (t : Token) (all rest : List Token) → all ≡ t ∷ rest → one_if (nat_eq t.start offset) ≤ count_by (λ (u : Token). u.start == offset) all
+first_counts offset t all rest e =
+    let at = λ (u : Token). u.start == offset in
+    let a = count_cons at t rest in
+    let b = ap (count_by at) e in
+    omega (arith, a, b)
+
+expr_once : (offset part holder : ℕ) (l : ExprLayer) → count_by (is_at offset part) (sites_of_expr holder l) ≤ count_by (λ (t : Token). t.start == offset) (tokens_among (expr_row items l []))
+expr_once offset part holder (Expr-F.New word head tails args) =
+    let a = calls_once offset part holder None word.start (length (placed (made_with args))) in
+    let b = first_counts offset word (tokens_among (expr_row items (Expr-F.New word head tails args) [])) _ refl in
+    omega (arith, a, b)
+expr_once offset part holder _ = omega arith
+
+-- a token of its own for each site of a node
 pub own_once : (known : Known) (offset part : ℕ) (n : Node) (c : ℕ) → count_by (is_at offset part) (own_sites known n c) ≤ count_by (λ (t : Token). t.start == offset) (own_tokens n)
-own_once known offset part (ATail head before (tail.Member dot name)) c = omega arith
-own_once known offset part (ATail head before (tail.Call a)) c = by (is_require_alone known head before && is_some (first_string (items_in a.items)))
+own_once known offset part (AnExpr x) c = expr_once offset part c (out-Expr x)
+own_once known offset part (ATail head before (tail.Call a)) c = by (is_required known head before (elements a))
   where
-    by : (z : Bool) → count_by (is_at offset part) (if z then [] else call_sites c (last_member before) a.open.start (length (items_in a.items))) ≤ count_by (λ (t : Token). t.start == offset) (a.open ∷ [])
+    by : (z : Bool) → count_by (is_at offset part) (unrequired_sites c z (last_member before) a.open.start (elements a)) ≤ count_by (λ (t : Token). t.start == offset) (own_tokens (ATail head before (tail.Call a)))
     by true = omega arith
-    by false = let d = calls_once offset part c (last_member before) a.open.start (length (items_in a.items)) in let e = count_cons (λ (t : Token). t.start == offset) a.open [] in omega (arith, d, e)
+    by false =
+        let d = calls_once offset part c (last_member before) a.open.start (length (placed (elements a))) in
+        let e = first_counts offset a.open (own_tokens (ATail head before (tail.Call a))) _ refl in
+        omega (arith, d, e)
+own_once known offset part (ATail head before (tail.Template t)) c =
+    let a = calls_once offset part c None t.head.start (length t.parts + 1) in
+    let b = first_counts offset t.head (own_tokens (ATail head before (tail.Template t))) _ refl in
+    omega (arith, a, b)
+own_once known offset part (ATail head before (tail.Member dot name)) c = omega arith
+own_once known offset part (ATail head before (tail.Index begin value end)) c = omega arith
 own_once known offset part _ c = omega arith
+
+-- FUNCTIONS OF ONE PLACE
+
+abbrev pub starts_at : ℕ → FunctionInfo → Bool
+starts_at offset f = nat_eq f.start offset
+
+function_once : (offset : ℕ) (l : FunctionLayer) (given : Option Token) → count_by (starts_at offset) (info_in l given ∷ []) ≤ count_by (λ (t : Token). t.start == offset) (tokens_among (function_row items l []))
+function_once offset (Function-F.Keyword word name params body) given =
+    let a = count_cons (starts_at offset) (info_in (Function-F.Keyword word name params body) given) [] in
+    let b = first_counts offset word (tokens_among (function_row items (Function-F.Keyword word name params body) [])) _ refl in
+    omega (arith, a, b)
+
+pub functions_once : (offset : ℕ) (n : Node) (given : Option Token) → count_by (starts_at offset) (own_functions n given) ≤ count_by (λ (t : Token). t.start == offset) (own_tokens n)
+functions_once offset (AFunction f) given = function_once offset (out-Function f) given
+functions_once offset _ given = omega arith
 
 pub nat_same : (a b : ℕ) → a ≡ b → nat_eq a b ≡ true
 nat_same a b e = grind (arith, nat_tests, e)

@@ -9,8 +9,6 @@ use Rattle.std.specs.Ordering.{ordering_then, nat_cmp, eq_by_cmp, MatchOrdering}
 use Rattle.std.specs.Str.{bytes_eq}
 use Rattle.std.proofs.lemmas.Map.Text.{is_eq-slice_cmp}
 use Rattle.std.proofs.lemmas.Cmp.{ranked}
-use Rattle.std.proofs.lemmas.Map.Lookups.{exact_bytes}
-use Rattle.flow_rules.specs.declared.module.Flow.{Flow}
 use Rattle.flow_rules.specs.declared.vertex.Vertex.{Vertex}
 use Rattle.flow_rules.specs.declared.vertex.Vertex.TheVariants.{Prop, Elem, Global, Exports, Param, Rest, Ret, Lit, Callee, Arg, More, Recv, Res, Req, Var, Exp}
 use Rattle.flow_rules.specs.Vertices.{vertex_key, vertex_order, flow_order, name_of, numbers_of}

@@ -1,83 +1,137 @@
 -- What a tree says of its values: what each kind of node gives by itself.
-use Rattle.std.specs.Prelude.{ℕ, List, [], Option, Some, None, if◌then◌else◌}
-use Rattle.std.specs.List.{flat_map}
+use Rattle.std.specs.Prelude.{ℕ, ◌+◌, ◌==◌, List, [], ◌∷◌, ◌++◌, Option, Some, None, if◌then◌else◌}
+use Rattle.std.specs.List.{flat_map, list_any}
 use Rattle.std.specs.Ordering.{nat_cmp, on}
 use Rattle.std.specs.declared.cmp.Ordering.{Ordering}
+use Rattle.js_tree.specs.declared.lists.Arm.{Arm}
+use Rattle.js_tree.specs.declared.lists.Further.{Further}
+use Rattle.js_tree.specs.declared.lists.Init.{Init}
 use Rattle.js_tree.specs.declared.token.Token.{Token}
 use Rattle.js_tree.specs.declared.tree.Expr.{Expr, out-Expr}
-use Rattle.js_tree.specs.declared.tree.Expr.TheOpen.{Expr-F, Pattern-F}
+use Rattle.js_tree.specs.declared.tree.Expr.TheOpen.{Expr-F, Pattern-F, Stmt-F}
 use Rattle.js_tree.specs.declared.tree.Function.{Function, out-Function}
 use Rattle.js_tree.specs.declared.tree.Pattern.{Pattern, out-Pattern}
-use Rattle.js_tree.specs.declared.tree.Slot.{out-Slot}
+use Rattle.js_tree.specs.declared.tree.Slot.{Slot, out-Slot}
+use Rattle.js_tree.specs.declared.tree.Stmt.{out-Stmt}
 use Rattle.js_tree.specs.declared.tree.Tree.{Tree}
-use Rattle.js_tree.specs.Folds.{ExprLayer, PatternLayer, SlotLayer}
-use Rattle.js_tree.specs.Parts.{Node, AnExpr, AFunction, APattern, ASlot, ATail, ABody, init_parts, gathered}
-use Rattle.js_scopes.specs.declared.binding.Binding.{Binding}
-use Rattle.js_scopes.specs.declared.binding.Binding.TheVariants as binding
+use Rattle.js_tree.specs.Folds.{ExprLayer, PatternLayer, SlotLayer, StmtLayer}
+use Rattle.js_tree.specs.Parts.{Node, AnExpr, AFunction, APattern, AStmt, ASlot, ATail, ABody, gathered}
 use Rattle.jam_base.specs.Ascending.{ascending}
-use Rattle.js_scopes.specs.Scopes.{Known, functions_of, holder_in, known_of, name_in, sites_of, start_of}
+use Rattle.js_scopes.specs.Calls.{Known, holder_in, made_with}
+use Rattle.js_scopes.specs.Functions.{is_assignment, name_in, params_in, start_of}
+use Rattle.js_scopes.specs.Scopes.{functions_of, known_of, sites_of}
 use Rattle.flow_rules.specs.declared.module.Flow.{Flow}
 use Rattle.flow_rules.specs.declared.module.ModuleNote.{ModuleNote}
 use Rattle.flow_rules.specs.declared.module.Require.{Require}
 use Rattle.flow_rules.specs.declared.notes.Standing.TheVariants as standing
 use Rattle.flow_rules.specs.declared.vertex.Vertex.{Vertex}
 use Rattle.flow_rules.specs.declared.vertex.Vertex.TheVariants as vertex
-use Rattle.flow_rules.specs.Calls.{flow, tail_flows}
+use Rattle.flow_rules.specs.Arguments.{arguments_in, arguments_of_name}
+use Rattle.flow_rules.specs.Calls.{flow, made_flows, tail_flows}
 use Rattle.flow_rules.specs.Constraints.{ModuleConstraints}
 use Rattle.flow_rules.specs.Numbered.{numbered_of, place_in}
 use Rattle.flow_rules.specs.Requires.{notes_in, requires_in}
-use Rattle.flow_rules.specs.Values.{Facts, is_assignment, token_vertex, value}
+use Rattle.flow_rules.specs.Values.{Facts, OR, choice_mark, joined_vertex, operator_mark, place, token_vertex, value}
 use Rattle.flow_rules.specs.Vertices.{flow_order}
 
--- values that come to a pattern. Name: to its vertex. Member: to that of the chain
-abbrev pub into_in : Facts → PatternLayer → Option Vertex → List Flow
-into_in facts (Pattern-F.«Pattern::Name» t) from = flow from (token_vertex facts.known t)
-into_in facts (Pattern-F.Member chain) from = flow from (value facts chain)
+-- PATTERNS AND NAMES
 
+-- values that come to a pattern
 abbrev pub into : Facts → Pattern → Option Vertex → List Flow
-into facts p from = into_in facts (out-Pattern p) from
+into facts p from = flow from (place facts p)
 
--- a name that means the arguments of a function: what that takes past its parameters, of which there are none yet, is an element
-abbrev pub arguments_flows : Binding → List Flow
-arguments_flows (binding.Arguments f) = flow (Some (vertex.Rest f)) (Some vertex.Elem)
-arguments_flows _ = []
+-- a name that means the arguments of a function: what that takes past its parameters is an element
+abbrev pub rest_flows : List ℕ → List Flow
+rest_flows = flat_map (λ f. flow (Some (vertex.Rest f)) (Some vertex.Elem))
 
 abbrev pub name_flows : Known → Token → List Flow
-name_flows known t = arguments_flows (known.binding t.start)
+name_flows known t = rest_flows (arguments_of_name known t)
+
+-- EXPRESSIONS
 
 -- with `=` the value of an assignment comes to its target
 abbrev pub assigned_flows : Facts → Pattern → Token → Expr → List Flow
 assigned_flows facts target op from = if is_assignment op then into facts target (value facts from) else []
 
--- Assign: from its right side to its target. Name: its flows
+-- an expression comes to the one with a token of its own at this offset
+abbrev pub joined_flow : Facts → Option ℕ → Expr → List Flow
+joined_flow facts mark from = flow (value facts from) (joined_vertex facts mark)
+
+-- with `||` between them each operand comes to the whole
+abbrev pub operands_flows : Facts → ℕ → Expr → List (Further Expr) → List Flow
+operands_flows facts level first others =
+    if level == OR then joined_flow facts (operator_mark others) first ++ flat_map (λ x. joined_flow facts (operator_mark others) x.item) others else []
+
+-- the value of each arm comes to a choice, and the last
+abbrev pub choice_flows : Facts → List (Arm Expr) → Expr → List Flow
+choice_flows facts arms last = flat_map (λ x. joined_flow facts (choice_mark arms) x.value) arms ++ joined_flow facts (choice_mark arms) last
+
+-- Name: its flows. New: those of its call. Binary with `||`: its operands come to it. Cond: so does the value of each arm, and the last. Assign: from
+-- its right side to its target
 abbrev pub expr_flows : Facts → ExprLayer → List Flow
-expr_flows facts (Expr-F.Assign target op from) = assigned_flows facts target op from
 expr_flows facts (Expr-F.«Expr::Name» t) = name_flows facts.known t
+expr_flows facts (Expr-F.New word head tails args) = made_flows facts head tails word.start (made_with args)
+expr_flows facts (Expr-F.Binary level first others) = operands_flows facts level first others
+expr_flows facts (Expr-F.Cond arms last) = choice_flows facts arms last
+expr_flows facts (Expr-F.Assign target op from) = assigned_flows facts target op from
 expr_flows facts _ = []
 
 abbrev pub pattern_flows : Known → PatternLayer → List Flow
 pattern_flows known (Pattern-F.«Pattern::Name» t) = name_flows known t
 pattern_flows known _ = []
 
+-- FUNCTIONS
+
 -- a function with this number comes to its own name, where it has one
 abbrev pub named_flows : Known → ℕ → Option Token → List Flow
 named_flows known number None = []
 named_flows known number (Some t) = flow (Some (vertex.Lit number)) (token_vertex known t)
 
+-- what a parameter takes comes to its pattern, and is an element where the function's arguments are used
+abbrev pub param_flows : Facts → ℕ → ℕ → Slot → List Flow
+param_flows facts number i s =
+    into facts (out-Slot s).target (Some (vertex.Param number i))
+    ++ (if facts.uses_arguments number then flow (Some (vertex.Param number i)) (Some vertex.Elem) else [])
+
+-- the same of all parameters, from place i on
+abbrev pub params_flows : Facts → ℕ → ℕ → List Slot → List Flow
+params_flows facts number i [] = []
+params_flows facts number i (s ∷ ss) = param_flows facts number i s ++ params_flows facts number (i + 1) ss
+
 abbrev pub function_flows : Facts → Function → List Flow
-function_flows facts f = named_flows facts.known (facts.known.number (start_of f)) (name_in (out-Function f))
+function_flows facts f =
+    named_flows facts.known (facts.known.number (start_of f)) (name_in (out-Function f))
+    ++ params_flows facts (facts.known.number (start_of f)) 0 (params_in (out-Function f))
+
+-- SLOTS AND STATEMENTS
 
 -- what a slot is given comes to its pattern
+abbrev pub given_flows : Facts → Pattern → Option (Init Expr) → List Flow
+given_flows facts target None = []
+given_flows facts target (Some x) = into facts target (value facts x.value)
+
 abbrev pub slot_flows : Facts → SlotLayer → List Flow
-slot_flows facts slot = flat_map (λ x. into facts slot.target (value facts x)) (init_parts slot.init)
+slot_flows facts slot = given_flows facts slot.target slot.init
+
+-- Return: what is given comes to what the function with this number returns
+abbrev pub returned_flows : Facts → ℕ → Option Expr → List Flow
+returned_flows facts holder None = []
+returned_flows facts holder (Some x) = flow (value facts x) (Some (vertex.Ret holder))
+
+abbrev pub stmt_flows : Facts → ℕ → StmtLayer → List Flow
+stmt_flows facts holder (Stmt-F.Return word value semi) = returned_flows facts holder value
+stmt_flows facts holder _ = []
+
+-- NODES
 
 abbrev pub own_flows : Facts → Node → ℕ → List Flow
 own_flows facts (AnExpr x) holder = expr_flows facts (out-Expr x)
 own_flows facts (AFunction f) holder = function_flows facts f
 own_flows facts (APattern p) holder = pattern_flows facts.known (out-Pattern p)
+own_flows facts (AStmt x) holder = stmt_flows facts holder (out-Stmt x)
 own_flows facts (ASlot s) holder = slot_flows facts (out-Slot s)
 own_flows facts (ATail head before t) holder = tail_flows facts head before t
-own_flows facts _ holder = []
+own_flows facts (ABody body) holder = []
 
 -- the flows in a node, in the function with this number
 abbrev pub flows_in : Facts → Node → ℕ → List Flow
@@ -87,7 +141,11 @@ flows_in facts = gathered (own_flows facts) (λ n holder. Some (holder_in facts.
 
 -- what is known of the module with the tree
 abbrev pub facts_of : Tree → Facts
-facts_of tree = record { known = known_of tree; number = place_in (numbered_of tree) }
+facts_of tree = record {
+  known = known_of tree;
+  number = place_in (numbered_of tree);
+  uses_arguments = λ f. list_any (λ g. g == f) (arguments_in (known_of tree) (ABody tree.body));
+}
 
 -- requires go by their offset, and so do notes
 abbrev pub require_order : Require → Require → Ordering

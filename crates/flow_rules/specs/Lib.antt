@@ -1,3 +1,4 @@
+pub mod Arguments
 pub mod AtHand
 pub mod Calls
 pub mod Constraints

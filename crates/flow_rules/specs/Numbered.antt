@@ -1,28 +1,31 @@
 -- The expressions of a module that have a number.
 use Rattle.std.specs.Prelude.{ℕ, ◌+◌, ◌==◌, List, [], ◌∷◌, ◌++◌, Some, if◌then◌else◌}
+use Rattle.js_tree.specs.declared.lists.Tail.{Tail}
+use Rattle.js_tree.specs.declared.lists.Tail.TheVariants as tail
 use Rattle.js_tree.specs.declared.tree.Expr.{Expr, out-Expr}
 use Rattle.js_tree.specs.declared.tree.Expr.TheOpen.{Expr-F}
-use Rattle.js_tree.specs.declared.tree.Tail.{Tail}
-use Rattle.js_tree.specs.declared.tree.Tail.TheVariants as tail
 use Rattle.js_tree.specs.declared.tree.Tree.{Tree}
 use Rattle.js_tree.specs.Folds.{ExprLayer}
 use Rattle.js_tree.specs.Parts.{Node, AnExpr, ABody, gathered}
-use Rattle.js_scopes.specs.Scopes.{last_member}
-use Rattle.flow_rules.specs.Values.{is_numbered}
+use Rattle.js_scopes.specs.Brackets.{listed}
+use Rattle.js_scopes.specs.Calls.{last_member}
+use Rattle.flow_rules.specs.Values.{OR, choice_mark, is_numbered, operator_mark}
 
 -- the `(` of a call that has a number, behind these tails
 abbrev pub numbered_call : List (Tail Expr) → Tail Expr → List ℕ
-numbered_call before (tail.Member dot name) = []
 numbered_call before (tail.Call a) = if is_numbered (last_member before) then a.open.start ∷ [] else []
+numbered_call before _ = []
 
 -- the same of all tails, the last first
 abbrev pub numbered_calls : List (Tail Expr) → List (Tail Expr) → List ℕ
 numbered_calls before [] = []
 numbered_calls before (t ∷ tails) = numbered_calls (before ++ t ∷ []) tails ++ numbered_call before t
 
--- Chain: its calls, outer before inner
+-- Chain: its calls, outer before inner. Binary with `||`, Cond: itself
 abbrev pub numbered_in_expr : ExprLayer → List ℕ
 numbered_in_expr (Expr-F.Chain head tails) = numbered_calls [] tails
+numbered_in_expr (Expr-F.Binary level first others) = if level == OR then listed (operator_mark others) else []
+numbered_in_expr (Expr-F.Cond arms last) = listed (choice_mark arms)
 numbered_in_expr _ = []
 
 abbrev pub own_numbered : Node → Unit {0} → List ℕ

@@ -1,15 +1,17 @@
 -- The requires and the notes of a tree.
-use Rattle.std.specs.Prelude.{ℕ, List, [], ◌∷◌, Option, Some, None, if◌then◌else◌}
+use Rattle.std.specs.Prelude.{ℕ, ◌==◌, List, [], ◌∷◌, Option, Some, None, if◌then◌else◌, codes}
+use Rattle.std.specs.Str.{bytes_eq}
+use Rattle.js_tree.specs.declared.lists.Tail.{Tail}
+use Rattle.js_tree.specs.declared.lists.Tail.TheVariants as tail
 use Rattle.js_tree.specs.declared.token.Token.{Token}
 use Rattle.js_tree.specs.declared.tree.Expr.{Expr, out-Expr}
 use Rattle.js_tree.specs.declared.tree.Expr.TheOpen.{Expr-F, Pattern-F, Stmt-F}
 use Rattle.js_tree.specs.declared.tree.Pattern.{out-Pattern}
 use Rattle.js_tree.specs.declared.tree.Stmt.{out-Stmt}
-use Rattle.js_tree.specs.declared.tree.Tail.{Tail}
-use Rattle.js_tree.specs.declared.tree.Tail.TheVariants as tail
 use Rattle.js_tree.specs.Folds.{ExprLayer, PatternLayer, StmtLayer}
-use Rattle.js_tree.specs.Parts.{Node, AnExpr, APattern, AStmt, ASlot, ATail, items_in, gathered}
-use Rattle.js_scopes.specs.Scopes.{Known, first_string, holder_in, is_require, is_require_alone}
+use Rattle.js_tree.specs.Parts.{Node, AnExpr, AFunction, APattern, AStmt, ASlot, ATail, ABody, gathered}
+use Rattle.js_scopes.specs.Brackets.{elements}
+use Rattle.js_scopes.specs.Calls.{Known, first_string, holder_in, is_require, is_require_alone}
 use Rattle.flow_rules.specs.declared.module.ModuleNote.{ModuleNote}
 use Rattle.flow_rules.specs.declared.module.NoteKind.TheVariants as note
 use Rattle.flow_rules.specs.declared.module.Require.{Require}
@@ -24,9 +26,9 @@ call_requires offset holder None = []
 call_requires offset holder (Some spec) = record { offset = offset; spec = spec; holder = holder } ∷ []
 
 abbrev pub tail_requires : Known → ℕ → Expr → List (Tail Expr) → Tail Expr → List Require
-tail_requires known holder head before (tail.Member dot name) = []
 tail_requires known holder head before (tail.Call a) =
-    if is_require_alone known head before then call_requires a.open.start holder (first_string (items_in a.items)) else []
+    if is_require_alone known head before then call_requires a.open.start holder (first_string (elements a)) else []
+tail_requires known holder head before _ = []
 
 abbrev pub own_requires : Known → Node → ℕ → List Require
 own_requires known (ATail head before t) holder = tail_requires known holder head before t
@@ -38,31 +40,49 @@ requires_in known = gathered (own_requires known) (λ n holder. Some (holder_in 
 
 -- NOTES
 
--- what stands directly in an expression: the primary of a chain
+-- beside an expression each name stands as a value, but the expression itself where it is a name
+abbrev pub beside : ExprLayer → Standing
+beside (Expr-F.«Expr::Name» t) = standing.Beside t.start
+beside _ = standing.Value
+
+-- so does what stands in a chain, or in what `new` makes: the head is called, or is the object of a member, unless a template follows
+abbrev pub beside_head : Expr → List (Tail Expr) → Standing
+beside_head head [] = standing.Value
+beside_head head (tail.Template t ∷ tails) = standing.Value
+beside_head head (t ∷ tails) = beside (out-Expr head)
+
+-- and behind an operator, where it is `typeof`
+abbrev pub beside_operand : Token → Expr → Standing
+beside_operand op operand = if bytes_eq op.text (codes "typeof") then beside (out-Expr operand) else standing.Value
+
 abbrev pub standing_in_expr : ExprLayer → Standing
-standing_in_expr (Expr-F.Chain head tails) = standing.Primary
+standing_in_expr (Expr-F.Chain head tails) = beside_head head tails
+standing_in_expr (Expr-F.New word head tails args) = beside_head head tails
+standing_in_expr (Expr-F.Unary op operand) = beside_operand op operand
 standing_in_expr _ = standing.Value
 
--- and in a statement: what it declares
+-- what stands directly in a statement that declares is declared
 abbrev pub standing_in_stmt : StmtLayer → Standing
-standing_in_stmt (Stmt-F.Vars word decls semi) = standing.Declared
+standing_in_stmt (Stmt-F.Vars word first others semi) = standing.Declared
 standing_in_stmt _ = standing.Value
 
--- how the parts of a node stand: those of a slot and of a pattern as these themselves
+-- how the parts of a node stand: the parameters of a function are declared, and those of a slot and of a pattern stand as these themselves
 abbrev pub standing_in : Node → Standing → Standing
 standing_in (AnExpr x) s = standing_in_expr (out-Expr x)
+standing_in (AFunction f) s = standing.Declared
+standing_in (APattern x) s = s
 standing_in (AStmt x) s = standing_in_stmt (out-Stmt x)
 standing_in (ASlot x) s = s
-standing_in (APattern x) s = s
-standing_in _ s = standing.Value
+standing_in (ATail head before t) s = standing.Value
+standing_in (ABody body) s = standing.Value
 
 -- the note on a use of a name as a value
 abbrev pub name_notes : Known → Token → List ModuleNote
 name_notes known t = if is_require (known.binding t.start) then record { offset = t.start; kind = note.RequireValue } ∷ [] else []
 
--- a name that is used is noted where it isn't the primary of a chain, and one that is written where it isn't declared
+-- a name that is used is noted where it isn't the one beside which all are values, and one that is written where it isn't declared
 abbrev pub used_notes : Known → Token → Standing → List ModuleNote
-used_notes known t standing.Primary = []
+used_notes known t (standing.Beside start) = if t.start == start then [] else name_notes known t
 used_notes known t _ = name_notes known t
 
 abbrev pub written_notes : Known → Token → Standing → List ModuleNote
@@ -83,8 +103,8 @@ call_notes offset None = record { offset = offset; kind = note.DynamicRequire } 
 call_notes offset (Some spec) = []
 
 abbrev pub tail_notes : Known → Expr → List (Tail Expr) → Tail Expr → List ModuleNote
-tail_notes known head before (tail.Member dot name) = []
-tail_notes known head before (tail.Call a) = if is_require_alone known head before then call_notes a.open.start (first_string (items_in a.items)) else []
+tail_notes known head before (tail.Call a) = if is_require_alone known head before then call_notes a.open.start (first_string (elements a)) else []
+tail_notes known head before _ = []
 
 abbrev pub own_notes : Known → Node → Standing → List ModuleNote
 own_notes known (AnExpr x) s = expr_notes known (out-Expr x) s

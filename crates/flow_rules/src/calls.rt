@@ -1,25 +1,29 @@
-//! The flows of calls.
-ghost use Rattle.std.specs.Prelude.{◌≡◌, ◌<◌, ◌++◌, [], length, OnOk, Some, if◌then◌else◌, codes, map};
-ghost use Rattle.std.specs.List.{flat_map};
-ghost use Rattle.std.specs.Option.{option_map};
-ghost use Rattle.std.specs.Str.{bytes_eq};
-ghost use Rattle.js_tree.specs.Parts.{ATail, items_in};
+//! The flows of calls, of `new` and of templates.
+ghost use Rattle.std.specs.Prelude.{◌≡◌, ◌<◌, ◌++◌, ◌+◌, [], length, OnOk, Some, if◌then◌else◌, map};
+ghost use Rattle.js_tree.specs.Parts.{ATail};
+ghost use Rattle.js_tree.specs.Spelling.Chains.{is_member as is_member_of};
 ghost use Rattle.js_tree.specs.Tokens.{IsInText};
+ghost use Rattle.js_scopes.specs.AtHand.{known_in};
+ghost use Rattle.js_scopes.specs.Brackets.{elements};
+ghost use Rattle.js_scopes.specs.Calls as callees;
 ghost use Rattle.flow_rules.specs.declared.vertex.Vertex.TheVariants as vertex;
 ghost use Rattle.flow_rules.specs.AtHand.{facts_in};
 ghost use Rattle.flow_rules.specs.Calls as flows;
-ghost use Rattle.flow_rules.specs.Vertices.{vertex_key};
+ghost use Rattle.flow_rules.specs.Values.{object_value};
 
+use crate::arguments::{Argument, arguments_made_with, arguments_of, arguments_tagged_with};
 use crate::facts::Facts;
-use crate::values::{object_value, takes_out, value_up_to, values_of};
+use crate::flow::{push_flow, push_handed};
+use crate::members::{push_member, push_put};
+use crate::values::{object_value, value_up_to};
 use crate::{Flow, Vertex};
-use jam_base::{OutOfMemory, Text};
-use js_scopes::{is_reflected, is_required, member_of};
-use js_tree::{Arguments, Expr, Tail};
+use jam_base::OutOfMemory;
+use js_scopes::last_member;
+use js_tree::{Bracket, Expr, Tail, Template, Token};
 use sqlite_items::Boxed;
 use std::alloc::Global;
 
-/// Adds the flows of a tail of a chain, behind its primary and the tails before it.
+/// Adds the flows of a tail behind its head and the tails before it.
 pub(crate) fn push_tail_flows(
     alloc: Global,
     facts: &Facts<'_>,
@@ -33,335 +37,214 @@ pub(crate) fn push_tail_flows(
 {
     match tail {
         Tail::Member { dot: _, name: _ } => Ok(()),
-        Tail::Call(arguments) => {
-            let required = facts.known.is_require_alone(head, before);
-            let required = is_required(required, arguments.items.as_slice());
-            push_unrequired(alloc, required, facts, head, before, arguments, out)
-        }
+        Tail::Index {
+            open: _,
+            value: _,
+            close: _,
+        } => Ok(()),
+        Tail::Call(arguments) => push_unrequired(alloc, facts, head, before, arguments, out),
+        Tail::Template(template) => push_tagged(alloc, facts, head, before, template, out),
     }
 }
 
 // Adds those of a call, where a require has none.
 fn push_unrequired(
     alloc: Global,
-    required: bool,
     facts: &Facts<'_>,
     head: &Expr,
     before: &[Tail<Boxed<Expr>>],
-    arguments: &Arguments<Boxed<Expr>>,
+    arguments: &Bracket<Boxed<Expr>>,
     out: &mut Vec<Flow>,
 ) -> Result<(), OutOfMemory>
-    requires { length arguments.now.items < 4294967296 }
-    ensures { OnOk result (out.new.items ≡ out.old.items ++ flows.unrequired_flows required (facts_in facts.now) head.now before.now arguments.now.open.start (items_in arguments.now.items)) }
+    requires { length (elements arguments.now) < 4294967296 }
+    ensures { OnOk result (out.new.items ≡ out.old.items ++ flows.unrequired_flows (callees.is_required (known_in facts.now.known.now) head.now before.now (elements arguments.now)) (facts_in facts.now) head.now before.now arguments.now.open.start (map (flows.argument_of (facts_in facts.now)) (elements arguments.now))) }
 {
-    if required {
+    if facts.known.is_required(alloc, head, before, arguments)? {
         return Ok(());
     }
-    let values = values_of(alloc, facts, arguments.items.as_slice())?;
-    push_call(
-        alloc,
-        facts,
-        head,
-        before,
-        arguments.open.start,
-        values.as_slice(),
-        out,
-    )
+    let args = arguments_of(alloc, facts, arguments)?;
+    let offset = arguments.open.start;
+    push_call(alloc, facts, head, before, offset, args.as_slice(), out)
 }
 
-// Adds those of a call at an offset with these values of its arguments.
+// Adds those of a call at an offset with these arguments.
 fn push_call(
     alloc: Global,
     facts: &Facts<'_>,
     head: &Expr,
     before: &[Tail<Boxed<Expr>>],
     offset: u32,
-    values: &[Option<Vertex>],
+    args: &[Argument],
     out: &mut Vec<Flow>,
 ) -> Result<(), OutOfMemory>
-    requires { length values.now < 4294967296 }
-    ensures { OnOk result (out.new.items ≡ out.old.items ++ flows.call_flows (facts_in facts.now) head.now before.now offset values.now) }
+    requires { length args.now < 4294967296 }
+    ensures { OnOk result (out.new.items ≡ out.old.items ++ flows.call_flows (facts_in facts.now) head.now before.now offset args.now) }
+{
+    push_handing(alloc, facts, head, before, offset, args, out)?;
+    let number = facts.numbers.of_offset(offset);
+    let object = object_value(alloc, facts, head, before)?;
+    let member = last_member(alloc, before)?;
+    push_member(alloc, offset, number, &object, args, &member, out)
+}
+
+// Adds those of a template behind a tag.
+fn push_tagged(
+    alloc: Global,
+    facts: &Facts<'_>,
+    head: &Expr,
+    before: &[Tail<Boxed<Expr>>],
+    template: &Template<Boxed<Expr>>,
+    out: &mut Vec<Flow>,
+) -> Result<(), OutOfMemory>
+    requires { length template.now.parts + 1 < 4294967296 }
+    ensures { OnOk result (out.new.items ≡ out.old.items ++ flows.handing_flows (facts_in facts.now) head.now before.now template.now.head.start (flows.tagged_with (facts_in facts.now) template.now)) }
+{
+    let args = arguments_tagged_with(alloc, facts, template)?;
+    let offset = template.head.start;
+    push_handing(alloc, facts, head, before, offset, args.as_slice(), out)
+}
+
+/// Adds those of `new`, where this is its first token.
+pub(crate) fn push_made(
+    alloc: Global,
+    facts: &Facts<'_>,
+    word: &Token,
+    head: &Expr,
+    tails: &[Tail<Boxed<Expr>>],
+    args: &Option<Boxed<Bracket<Boxed<Expr>>>>,
+    out: &mut Vec<Flow>,
+) -> Result<(), OutOfMemory>
+    requires { length (callees.made_with args.now) < 4294967296 }
+    ensures { OnOk result (out.new.items ≡ out.old.items ++ flows.made_flows (facts_in facts.now) head.now tails.now word.now.start (callees.made_with args.now)) }
+{
+    let offset = word.start;
+    let made = value_up_to(alloc, facts, head, tails)?;
+    push_flow(alloc, &made, Vertex::Callee { offset, part: 0 }, out)?;
+    let args = arguments_made_with(alloc, facts, args)?;
+    push_arguments(alloc, offset, 0, args.as_slice(), out)
+}
+
+// Adds those that calls and templates behind a tag have in common.
+fn push_handing(
+    alloc: Global,
+    facts: &Facts<'_>,
+    head: &Expr,
+    before: &[Tail<Boxed<Expr>>],
+    offset: u32,
+    args: &[Argument],
+    out: &mut Vec<Flow>,
+) -> Result<(), OutOfMemory>
+    requires { length args.now < 4294967296 }
+    ensures { OnOk result (out.new.items ≡ out.old.items ++ flows.handing_flows (facts_in facts.now) head.now before.now offset args.now) }
+{
+    push_callee(alloc, facts, head, before, offset, out)?;
+    push_arguments(alloc, offset, 0, args, out)?;
+    let member = last_member(alloc, before)?;
+    push_put(alloc, args, &member, out)
+}
+
+// Adds those of what is called, and of the object of a member that is called.
+fn push_callee(
+    alloc: Global,
+    facts: &Facts<'_>,
+    head: &Expr,
+    before: &[Tail<Boxed<Expr>>],
+    offset: u32,
+    out: &mut Vec<Flow>,
+) -> Result<(), OutOfMemory>
+    ensures { OnOk result (out.new.items ≡ out.old.items ++ flows.callee_flows (facts_in facts.now) head.now before.now offset) }
 {
     let callee = value_up_to(alloc, facts, head, before)?;
     push_flow(alloc, &callee, Vertex::Callee { offset, part: 0 }, out)?;
-    push_arguments(alloc, offset, 0, values, out)?;
-    let object = object_value(alloc, facts, head, before)?;
-    let number = facts.numbers.of_offset(offset);
-    push_called(
-        alloc,
-        offset,
-        number,
-        &object,
-        values,
-        member_of(before),
-        out,
-    )
+    push_receiver(alloc, facts, head, before, offset, out)
 }
 
-// Adds the flow between these vertices, where the first is there and they differ.
-pub(crate) fn push_flow(
+fn push_receiver(
     alloc: Global,
-    from: &Option<Vertex>,
-    to: Vertex,
+    facts: &Facts<'_>,
+    head: &Expr,
+    before: &[Tail<Boxed<Expr>>],
+    offset: u32,
     out: &mut Vec<Flow>,
 ) -> Result<(), OutOfMemory>
-    ensures { OnOk result (out.new.items ≡ out.old.items ++ flows.flow from.now (Some to)) }
+    ensures { OnOk result (out.new.items ≡ out.old.items ++ (if flows.ends_in_member before.now then flows.flow (object_value (facts_in facts.now) head.now before.now) (Some (vertex.Recv offset 0)) else [])) }
 {
-    match from {
-        None => Ok(()),
-        Some(vertex) => push_between(alloc, vertex, to, out),
-    }
-}
-
-// Adds the flow between these vertices, where they differ.
-fn push_between(
-    alloc: Global,
-    from: &Vertex,
-    to: Vertex,
-    out: &mut Vec<Flow>,
-) -> Result<(), OutOfMemory>
-    ensures { OnOk result (out.new.items ≡ out.old.items ++ flows.flow (Some from.now) (Some to)) }
-{
-    if is_same(from, &to) {
+    if !ends_in_member(before) {
         return Ok(());
     }
-    out.push(Flow {
-        from: from.copy(alloc)?,
-        to,
-    })?;
-    Ok(())
+    let object = object_value(alloc, facts, head, before)?;
+    push_flow(alloc, &object, Vertex::Recv { offset, part: 0 }, out)
 }
 
-// The vertices are one.
-#[tactic(auto, using(crate::proofs::Order::same_key))]
-fn is_same(a: &Vertex, b: &Vertex) -> bool
-    ensures { result ≡ bytes_eq (vertex_key a.now) (vertex_key b.now) }
+// Whether the last of the tails is a member.
+fn ends_in_member(tails: &[Tail<Boxed<Expr>>]) -> bool
+    ensures { result ≡ flows.ends_in_member tails.now }
 {
-    a == b
-}
-
-/// Adds the flow between these vertices, where both are there and differ.
-pub(crate) fn push_flow_into(
-    alloc: Global,
-    from: &Option<Vertex>,
-    to: Option<Vertex>,
-    out: &mut Vec<Flow>,
-) -> Result<(), OutOfMemory>
-    ensures { OnOk result (out.new.items ≡ out.old.items ++ flows.flow from.now to) }
-{
-    match to {
-        None => Ok(()),
-        Some(vertex) => push_flow(alloc, from, vertex, out),
+    match tails.last() {
+        None => false,
+        Some(tail) => is_member(tail),
     }
 }
 
-// Each value goes to the site's argument at its place.
-fn push_arguments(
+fn is_member(tail: &Tail<Boxed<Expr>>) -> bool
+    ensures { result ≡ is_member_of tail.now }
+{
+    match tail {
+        Tail::Member { dot: _, name: _ } => true,
+        Tail::Index {
+            open: _,
+            value: _,
+            close: _,
+        } => true,
+        Tail::Call(_) => false,
+        Tail::Template(_) => false,
+    }
+}
+
+/// Adds the flows of the arguments of a site: a plain one goes to its place, and behind the first spread
+/// there are no places.
+pub(crate) fn push_arguments(
     alloc: Global,
     offset: u32,
     part: u8,
-    values: &[Option<Vertex>],
+    args: &[Argument],
     out: &mut Vec<Flow>,
 ) -> Result<(), OutOfMemory>
-    requires { length values.now < 4294967296 }
-    ensures { OnOk result (out.new.items ≡ out.old.items ++ flows.argument_flows offset part 0 values.now) }
+    requires { length args.now < 4294967296 }
+    ensures { OnOk result (out.new.items ≡ out.old.items ++ flows.argument_flows offset part 0 args.now) }
 {
     let mut index: u32 = 0;
-    for value in values {
-        let to = Vertex::Arg {
-            offset,
-            part,
-            index,
-        };
-        push_flow(alloc, value, to, out)?;
+    for argument in args {
+        match argument {
+            Argument::Plain(value) => {
+                let to = Vertex::Arg {
+                    offset,
+                    part,
+                    index,
+                };
+                push_flow(alloc, value, to, out)?;
+            }
+            Argument::Spread => {
+                return push_more(alloc, offset, part, &args[index as usize..], out);
+            }
+        }
         index += 1;
     }
     Ok(())
 }
 
-// What a call of a member of this name or none adds to a plain call.
-fn push_called(
+// Adds those of arguments without places.
+fn push_more(
     alloc: Global,
     offset: u32,
-    number: u32,
-    object: &Option<Vertex>,
-    values: &[Option<Vertex>],
-    member: Option<&Text>,
+    part: u8,
+    args: &[Argument],
     out: &mut Vec<Flow>,
 ) -> Result<(), OutOfMemory>
-    requires { length values.now < 4294967296 }
-    ensures { OnOk result (out.new.items ≡ out.old.items ++ flows.called_flows offset number object.now values.now (option_map (λ t. t.now) member.entry)) }
+    ensures { OnOk result (out.new.items ≡ out.old.items ++ flows.more_flows offset part args.now) }
 {
-    match member {
-        None => Ok(()),
-        Some(name) => push_member(alloc, offset, number, object, values, name.as_str(), out),
-    }
-}
-
-fn push_member(
-    alloc: Global,
-    offset: u32,
-    number: u32,
-    object: &Option<Vertex>,
-    values: &[Option<Vertex>],
-    name: &str,
-    out: &mut Vec<Flow>,
-) -> Result<(), OutOfMemory>
-    requires { length values.now < 4294967296 }
-    ensures { OnOk result (out.new.items ≡ out.old.items ++ flows.member_flows offset number object.now values.now name.now) }
-{
-    push_flow(alloc, object, Vertex::Recv { offset, part: 0 }, out)?;
-    push_reflected(alloc, offset, number, object, values, name, out)?;
-    push_taken(alloc, offset, number, name, out)?;
-    push_put(alloc, values, name, out)
-}
-
-// The call that `call`, `apply` or `bind` passes on, and its values.
-fn push_reflected(
-    alloc: Global,
-    offset: u32,
-    number: u32,
-    object: &Option<Vertex>,
-    values: &[Option<Vertex>],
-    name: &str,
-    out: &mut Vec<Flow>,
-) -> Result<(), OutOfMemory>
-    requires { length values.now < 4294967296 }
-    ensures { OnOk result (out.new.items ≡ out.old.items ++ flows.reflected_flows offset number object.now values.now name.now) }
-{
-    if !is_reflected(name) {
-        return Ok(());
-    }
-    push_flow(alloc, object, Vertex::Callee { offset, part: 1 }, out)?;
-    push_passed_on(alloc, offset, values, name, out)?;
-    let first = Some(Vertex::Res { offset, part: 0 });
-    push_flow(alloc, &first, Vertex::Exp { number }, out)?;
-    let second = Some(Vertex::Res { offset, part: 1 });
-    push_flow(alloc, &second, Vertex::Exp { number }, out)?;
-    push_bound(alloc, number, object, name, out)
-}
-
-// The receiver and the arguments of the call that is passed on.
-fn push_passed_on(
-    alloc: Global,
-    offset: u32,
-    values: &[Option<Vertex>],
-    name: &str,
-    out: &mut Vec<Flow>,
-) -> Result<(), OutOfMemory>
-    requires { length values.now < 4294967296 }
-    ensures { OnOk result (out.new.items ≡ out.old.items ++ (if bytes_eq name.now (codes "apply") then flows.applied_flows offset values.now else flows.passed_flows offset values.now)) }
-{
-    if name == "apply" {
-        return push_applied(alloc, offset, values, out);
-    }
-    push_passed(alloc, offset, values, out)
-}
-
-// Of `apply`: the first argument is the receiver, and any element may be an argument.
-fn push_applied(
-    alloc: Global,
-    offset: u32,
-    values: &[Option<Vertex>],
-    out: &mut Vec<Flow>,
-) -> Result<(), OutOfMemory>
-    ensures { OnOk result (out.new.items ≡ out.old.items ++ flows.applied_flows offset values.now) }
-{
-    let elements = Some(Vertex::Elem);
-    match values.split_first() {
-        None => push_flow(alloc, &elements, Vertex::More { offset, part: 1 }, out),
-        Some((receiver, _)) => {
-            push_flow(alloc, receiver, Vertex::Recv { offset, part: 1 }, out)?;
-            push_flow(alloc, &elements, Vertex::More { offset, part: 1 }, out)
-        }
-    }
-}
-
-// Of `call` and `bind`: the first argument is the receiver, and the others are the arguments.
-fn push_passed(
-    alloc: Global,
-    offset: u32,
-    values: &[Option<Vertex>],
-    out: &mut Vec<Flow>,
-) -> Result<(), OutOfMemory>
-    requires { length values.now < 4294967296 }
-    ensures { OnOk result (out.new.items ≡ out.old.items ++ flows.passed_flows offset values.now) }
-{
-    match values.split_first() {
-        None => Ok(()),
-        Some((receiver, others)) => {
-            push_flow(alloc, receiver, Vertex::Recv { offset, part: 1 }, out)?;
-            push_arguments(alloc, offset, 1, others, out)
-        }
-    }
-}
-
-// `bind` also gives the function itself.
-fn push_bound(
-    alloc: Global,
-    number: u32,
-    object: &Option<Vertex>,
-    name: &str,
-    out: &mut Vec<Flow>,
-) -> Result<(), OutOfMemory>
-    ensures { OnOk result (out.new.items ≡ out.old.items ++ flows.bound_flows number object.now name.now) }
-{
-    if name == "bind" {
-        return push_flow(alloc, object, Vertex::Exp { number }, out);
-    }
-    Ok(())
-}
-
-// `pop` and `shift` give an element.
-fn push_taken(
-    alloc: Global,
-    offset: u32,
-    number: u32,
-    name: &str,
-    out: &mut Vec<Flow>,
-) -> Result<(), OutOfMemory>
-    ensures { OnOk result (out.new.items ≡ out.old.items ++ flows.taken_flows offset number name.now) }
-{
-    if !takes_out(name) {
-        return Ok(());
-    }
-    let result = Some(Vertex::Res { offset, part: 0 });
-    push_flow(alloc, &result, Vertex::Exp { number }, out)?;
-    push_flow(alloc, &Some(Vertex::Elem), Vertex::Exp { number }, out)
-}
-
-// `push` and `unshift` put their arguments in.
-fn push_put(
-    alloc: Global,
-    values: &[Option<Vertex>],
-    name: &str,
-    out: &mut Vec<Flow>,
-) -> Result<(), OutOfMemory>
-    ensures { OnOk result (out.new.items ≡ out.old.items ++ flows.put_flows values.now name.now) }
-{
-    if puts_in(name) {
-        return push_elements(alloc, values, out);
-    }
-    Ok(())
-}
-
-// The member puts its arguments in.
-fn puts_in(name: &str) -> bool
-    ensures { result ≡ flows.puts_in name.now }
-{
-    name == "push" || name == "unshift"
-}
-
-// Each value is an element.
-fn push_elements(
-    alloc: Global,
-    values: &[Option<Vertex>],
-    out: &mut Vec<Flow>,
-) -> Result<(), OutOfMemory>
-    ensures { OnOk result (out.new.items ≡ out.old.items ++ flat_map (λ v. flows.flow v (Some vertex.Elem)) values.now) }
-{
-    for value in values {
-        push_flow(alloc, value, Vertex::Elem, out)?;
+    for argument in args {
+        push_handed(alloc, argument, Vertex::More { offset, part }, out)?;
     }
     Ok(())
 }

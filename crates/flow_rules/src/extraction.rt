@@ -1,12 +1,14 @@
 //! What a tree says of its values.
-ghost use Rattle.std.specs.Prelude.{◌≡◌, ℕ, IfOk, drop};
+ghost use Rattle.std.specs.Prelude.{◌≡◌, ◌==◌, ℕ, IfOk, drop};
+ghost use Rattle.std.specs.List.{list_any};
 ghost use Rattle.js_tree.specs.Parts.{ABody};
 ghost use Rattle.js_tree.specs.Spells.{SpellsSome};
 ghost use Rattle.js_tree.specs.Tokens.{IsInText};
 ghost use Rattle.js_scopes.specs.AtHand.{known_in};
 ghost use Rattle.js_scopes.specs.Meanings.{meaning_in};
 ghost use Rattle.js_scopes.specs.Scopes.{binding_of, functions_of, known_of};
-ghost use Rattle.flow_rules.specs.Places.{number_in};
+ghost use Rattle.flow_rules.specs.Places.{is_placed, number_in};
+ghost use Rattle.flow_rules.specs.Arguments.{arguments_in};
 ghost use Rattle.flow_rules.specs.Flows as seen;
 ghost use Rattle.flow_rules.specs.Numbered.{numbered_of, place_in};
 
@@ -15,6 +17,7 @@ use crate::flows::Flows;
 use crate::notes::{Notes, Standing};
 use crate::numbered::Numbered;
 use crate::required::Requires;
+use crate::used_arguments::UsedArguments;
 use crate::{Constraints, Flow, ModuleNote, Require};
 use jam_base::{List, OutOfMemory, ascending};
 use js_scopes::{Bindings, FunctionInfo, Known, functions, sites_with};
@@ -91,9 +94,11 @@ fn flows_of(alloc: Global, tree: &Tree, known: &Known<'_>) -> Result<List<Flow>,
     ensures { IfOk result (λ made. made ≡ seen.flows_of tree.now) }
 {
     let numbers = numbers_of(alloc, tree)?;
+    let arguments = arguments_of(alloc, tree, known)?;
     let facts = Facts {
         known,
         numbers: &numbers,
+        arguments: &arguments,
     };
     let mut found = Vec::new(alloc);
     let body = Node::Body(tree.body.as_slice());
@@ -111,4 +116,15 @@ fn numbers_of(alloc: Global, tree: &Tree) -> Result<Numbers, OutOfMemory>
     let body = Node::Body(tree.body.as_slice());
     walk_tree(alloc, &Numbered, body, (), &mut numbered)?;
     Numbers::of(alloc, numbered)
+}
+
+// The functions whose `arguments` are used.
+fn arguments_of(alloc: Global, tree: &Tree, known: &Known<'_>) -> Result<Numbers, OutOfMemory>
+    requires { IsInText (ABody tree.now.body) }
+    ensures { IfOk result (λ made. (f : ℕ) → is_placed made f ≡ list_any (λ g. g == f) (arguments_in (known_in known.now) (ABody tree.now.body))) }
+{
+    let mut used = Vec::new(alloc);
+    let body = Node::Body(tree.body.as_slice());
+    walk_tree(alloc, &UsedArguments { known }, body, (), &mut used)?;
+    Numbers::of(alloc, used)
 }

@@ -1,7 +1,7 @@
 //! What is at hand of a module.
 ghost use Rattle.std.specs.Prelude.{◌≡◌, ◌<◌, ℕ, ◌==◌, length, if◌then◌else◌, IfOk, OnOk};
 ghost use Rattle.js_scopes.specs.AtHand.{known_in};
-ghost use Rattle.flow_rules.specs.Places.{number_in, place_or};
+ghost use Rattle.flow_rules.specs.Places.{is_placed, number_in, place_or};
 ghost use Rattle.flow_rules.specs.Numbered.{place_in};
 ghost use Rattle.flow_rules.specs.Values.{name_vertex, token_vertex};
 
@@ -13,14 +13,16 @@ use std::alloc::Global;
 use std::collections::BTreeMap;
 use std::marker::Model;
 
-/// What is known of a module, and the numbers of its numbered expressions.
+/// What is known of a module, the numbers of its numbered expressions by the offsets of tokens of their
+/// own, and the functions whose `arguments` are used.
 #[derive(Drop)]
 pub(crate) struct Facts<'m> {
     pub(crate) known: &'m Known<'m>,
     pub(crate) numbers: &'m Numbers,
+    pub(crate) arguments: &'m Numbers,
 }
 
-/// The numbers of the numbered expressions of a module, by the offsets of tokens of their own.
+/// The places of numbers in a list.
 #[derive(Drop)]
 pub(crate) struct Numbers {
     places: BTreeMap<u32, u32>,
@@ -36,10 +38,11 @@ impl Model for Numbers {
 }
 
 impl Numbers {
-    /// Each offset by its first place in the list.
+    /// Each number by its first place in the list.
     pub(crate) fn of(alloc: Global, numbered: Vec<u32>) -> Result<Numbers, OutOfMemory>
         requires { length numbered.items < 4294967296 }
-        ensures { IfOk result (λ made. (offset : ℕ) → number_in made offset ≡ place_in numbered.items offset) }
+        ensures places { IfOk result (λ made. (offset : ℕ) → number_in made offset ≡ place_in numbered.items offset) }
+        ensures count { IfOk result (λ made. made.count ≡ length numbered.items) }
     {
         let count = numbered.len() as u32;
         Ok(Numbers {
@@ -48,7 +51,14 @@ impl Numbers {
         })
     }
 
-    /// The number of the expression with a token of its own at the offset.
+    /// Whether the number is in the list.
+    pub(crate) fn has(&self, item: u32) -> bool
+        ensures { result ≡ is_placed self.now item }
+    {
+        self.of_offset(item) < self.count
+    }
+
+    /// The place of the offset, or how many there are.
     pub(crate) fn of_offset(&self, offset: u32) -> u32
         ensures { result ≡ number_in self.now offset }
     {

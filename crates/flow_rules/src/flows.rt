@@ -1,20 +1,28 @@
 //! The flows of a module.
-ghost use Rattle.std.specs.Prelude.{◌≡◌, ◌++◌, OnOk};
+ghost use Rattle.std.specs.Prelude.{◌≡◌, ◌<◌, ◌++◌, [], Some, if◌then◌else◌, length, map, OnOk};
 ghost use Rattle.std.specs.Option.{option_map};
 ghost use Rattle.js_tree.specs.declared.tree.Expr.{out-Expr};
 ghost use Rattle.js_tree.specs.declared.tree.Pattern.{out-Pattern};
 ghost use Rattle.js_tree.specs.declared.tree.Slot.{out-Slot};
+ghost use Rattle.js_tree.specs.declared.tree.Stmt.{out-Stmt};
+ghost use Rattle.js_tree.specs.Parts.{AFunction, AnExpr};
+ghost use Rattle.js_tree.specs.Tokens.{IsInText};
 ghost use Rattle.js_scopes.specs.AtHand.{known_in};
+ghost use Rattle.flow_rules.specs.Arguments.{arguments_meant};
 ghost use Rattle.flow_rules.specs.AtHand.{facts_in};
+ghost use Rattle.flow_rules.specs.declared.vertex.Vertex.TheVariants as vertex;
+ghost use Rattle.flow_rules.specs.Calls.{flow};
 ghost use Rattle.flow_rules.specs.Flows as seen;
 
-use crate::calls::{push_flow, push_flow_into, push_tail_flows};
+use crate::calls::{push_made, push_tail_flows};
 use crate::facts::{Facts, token_vertex};
-use crate::values::{is_assignment, value_of};
+use crate::flow::{push_flow, push_flow_into};
+use crate::values::{OR, choice_mark, joined_vertex, operator_mark, place_of, value_of};
 use crate::{Flow, Vertex};
 use jam_base::OutOfMemory;
-use js_scopes::{Binding, Known, own_name, start_of};
-use js_tree::{Expr, Function, Gather, Node, Pattern, Slot, Token};
+use js_scopes::{Binding, Known, is_assignment, own_name, params_of, start_of};
+use js_tree::{Arm, Expr, Function, Further, Gather, Node, Pattern, Slot, Stmt, Token};
+use sqlite_items::Boxed;
 use std::alloc::Global;
 
 /// The flows in a node, by the number of the function around it.
@@ -25,7 +33,7 @@ pub(crate) struct Flows<'m> {
 
 impl<'t, 'm> Gather<'t> for Flows<'m> {
     ghost use Rattle.std.specs.Prelude.{ℕ, Some};
-    ghost use Rattle.js_scopes.specs.Scopes.{holder_in};
+    ghost use Rattle.js_scopes.specs.Calls.{holder_in};
     ghost use Rattle.flow_rules.specs.declared.module.Flow.{Flow as GhostFlow};
     ghost use Rattle.flow_rules.specs.AtHand.{facts_in as facts_at_hand};
     ghost use Rattle.flow_rules.specs.Flows.{own_flows};
@@ -50,18 +58,19 @@ impl<'t, 'm> Gather<'t> for Flows<'m> {
         &self,
         alloc: Global,
         node: Node<'t>,
-        _around: u32,
+        around: u32,
         out: &mut Vec<Flow>,
     ) -> Result<(), OutOfMemory> {
         match node {
             Node::Expr(value) => push_expr_flows(alloc, &self.facts, value, out),
             Node::Function(function) => push_function_flows(alloc, &self.facts, function, out),
             Node::Pattern(pattern) => push_pattern_flows(alloc, self.facts.known, pattern, out),
+            Node::Stmt(statement) => push_stmt_flows(alloc, &self.facts, statement, around, out),
             Node::Slot(slot) => push_slot_flows(alloc, &self.facts, slot, out),
             Node::Tail { head, before, tail } => {
                 push_tail_flows(alloc, &self.facts, head, before, tail, out)
             }
-            _ => Ok(()),
+            Node::Body(_) => Ok(()),
         }
     }
 
@@ -76,17 +85,81 @@ fn push_expr_flows(
     value: &Expr,
     out: &mut Vec<Flow>,
 ) -> Result<(), OutOfMemory>
+    requires { IsInText (AnExpr value.now) }
     ensures { OnOk result (out.new.items ≡ out.old.items ++ seen.expr_flows (facts_in facts.now) (out-Expr value.now)) }
 {
     match value {
+        Expr::Name(token) => push_name_flows(alloc, facts.known, token, out),
+        Expr::New {
+            word,
+            head,
+            tails,
+            args,
+        } => push_made(alloc, facts, word, head.get(), tails.as_slice(), args, out),
+        Expr::Binary { level, first, rest } => {
+            push_operands(alloc, facts, *level, first.get(), rest.as_slice(), out)
+        }
+        Expr::Cond { arms, last } => push_choice(alloc, facts, arms.as_slice(), last.get(), out),
         Expr::Assign {
             target,
             op,
             value: from,
         } => push_assigned(alloc, facts, target.get(), op, from.get(), out),
-        Expr::Name(token) => push_name_flows(alloc, facts.known, token, out),
         _ => Ok(()),
     }
+}
+
+// With `||` between them each operand comes to the whole.
+fn push_operands(
+    alloc: Global,
+    facts: &Facts<'_>,
+    level: u8,
+    first: &Expr,
+    rest: &[Further<Boxed<Expr>>],
+    out: &mut Vec<Flow>,
+) -> Result<(), OutOfMemory>
+    ensures { OnOk result (out.new.items ≡ out.old.items ++ seen.operands_flows (facts_in facts.now) level first.now rest.now) }
+{
+    if level != OR {
+        return Ok(());
+    }
+    let mark = operator_mark(rest);
+    push_joined(alloc, facts, mark, first, out)?;
+    for further in rest {
+        push_joined(alloc, facts, mark, further.item.get(), out)?;
+    }
+    Ok(())
+}
+
+// The value of each arm comes to a choice, and the last.
+fn push_choice(
+    alloc: Global,
+    facts: &Facts<'_>,
+    arms: &[Arm<Boxed<Expr>>],
+    last: &Expr,
+    out: &mut Vec<Flow>,
+) -> Result<(), OutOfMemory>
+    ensures { OnOk result (out.new.items ≡ out.old.items ++ seen.choice_flows (facts_in facts.now) arms.now last.now) }
+{
+    let mark = choice_mark(arms);
+    for arm in arms {
+        push_joined(alloc, facts, mark, arm.value.get(), out)?;
+    }
+    push_joined(alloc, facts, mark, last, out)
+}
+
+// An expression comes to the one with a token of its own at this offset.
+fn push_joined(
+    alloc: Global,
+    facts: &Facts<'_>,
+    mark: Option<u32>,
+    value: &Expr,
+    out: &mut Vec<Flow>,
+) -> Result<(), OutOfMemory>
+    ensures { OnOk result (out.new.items ≡ out.old.items ++ seen.joined_flow (facts_in facts.now) mark value.now) }
+{
+    let from = value_of(alloc, facts, value)?;
+    push_flow_into(alloc, &from, joined_vertex(facts, mark), out)
 }
 
 // With `=` the value comes to the target.
@@ -117,16 +190,8 @@ fn push_into(
 ) -> Result<(), OutOfMemory>
     ensures { OnOk result (out.new.items ≡ out.old.items ++ seen.into (facts_in facts.now) target.now from.now) }
 {
-    match target {
-        Pattern::Name(token) => {
-            let to = token_vertex(alloc, facts.known, token)?;
-            push_flow_into(alloc, from, to, out)
-        }
-        Pattern::Member { chain } => {
-            let to = value_of(alloc, facts, chain.get())?;
-            push_flow_into(alloc, from, to, out)
-        }
-    }
+    let to = place_of(alloc, facts, target)?;
+    push_flow_into(alloc, from, to, out)
 }
 
 fn push_pattern_flows(
@@ -152,15 +217,11 @@ fn push_name_flows(
 ) -> Result<(), OutOfMemory>
     ensures { OnOk result (out.new.items ≡ out.old.items ++ seen.name_flows (known_in known.now) token.now) }
 {
-    push_arguments_flow(alloc, known.binding(token), out)
+    push_rest(alloc, known.binding(token), out)
 }
 
-fn push_arguments_flow(
-    alloc: Global,
-    binding: Binding,
-    out: &mut Vec<Flow>,
-) -> Result<(), OutOfMemory>
-    ensures { OnOk result (out.new.items ≡ out.old.items ++ seen.arguments_flows binding) }
+fn push_rest(alloc: Global, binding: Binding, out: &mut Vec<Flow>) -> Result<(), OutOfMemory>
+    ensures { OnOk result (out.new.items ≡ out.old.items ++ seen.rest_flows (arguments_meant binding)) }
 {
     match binding {
         Binding::Arguments(function) => {
@@ -171,17 +232,20 @@ fn push_arguments_flow(
     }
 }
 
-// A function comes to its own name.
+// A function comes to its own name, and what its parameters take to their patterns.
 fn push_function_flows(
     alloc: Global,
     facts: &Facts<'_>,
     function: &Function,
     out: &mut Vec<Flow>,
 ) -> Result<(), OutOfMemory>
+    requires { IsInText (AFunction function.now) }
     ensures { OnOk result (out.new.items ≡ out.old.items ++ seen.function_flows (facts_in facts.now) function.now) }
 {
     let number = facts.known.number(start_of(function));
-    push_named(alloc, facts.known, number, own_name(function), out)
+    push_named(alloc, facts.known, number, own_name(function), out)?;
+    let params = params_of(alloc, function)?;
+    push_params(alloc, facts, number, params.as_slice(), out)
 }
 
 // The function with this number comes to the name, where there is one.
@@ -204,6 +268,60 @@ fn push_named(
     }
 }
 
+// What the parameters of the function with this number take comes to their patterns.
+fn push_params(
+    alloc: Global,
+    facts: &Facts<'_>,
+    number: u32,
+    params: &[&Slot],
+    out: &mut Vec<Flow>,
+) -> Result<(), OutOfMemory>
+    requires { length params.now < 4294967296 }
+    ensures { OnOk result (out.new.items ≡ out.old.items ++ seen.params_flows (facts_in facts.now) number 0 (map (λ s. s.now) params.now)) }
+{
+    let mut index: u32 = 0;
+    for param in params {
+        push_param(alloc, facts, number, index, param, out)?;
+        index += 1;
+    }
+    Ok(())
+}
+
+// What one takes comes to its pattern, and is an element where the function's `arguments` are used.
+fn push_param(
+    alloc: Global,
+    facts: &Facts<'_>,
+    number: u32,
+    index: u32,
+    param: &Slot,
+    out: &mut Vec<Flow>,
+) -> Result<(), OutOfMemory>
+    ensures { OnOk result (out.new.items ≡ out.old.items ++ seen.param_flows (facts_in facts.now) number index param.now) }
+{
+    let taken = Some(Vertex::Param {
+        function: number,
+        index,
+    });
+    push_into(alloc, facts, &param.target, &taken, out)?;
+    push_if_used(alloc, facts, number, &taken, out)
+}
+
+// Where the function's `arguments` are used, what is taken is an element.
+fn push_if_used(
+    alloc: Global,
+    facts: &Facts<'_>,
+    number: u32,
+    taken: &Option<Vertex>,
+    out: &mut Vec<Flow>,
+) -> Result<(), OutOfMemory>
+    ensures { OnOk result (out.new.items ≡ out.old.items ++ (if (facts_in facts.now).uses_arguments number then flow taken.now (Some vertex.Elem) else [])) }
+{
+    if facts.arguments.has(number) {
+        return push_flow(alloc, taken, Vertex::Elem, out);
+    }
+    Ok(())
+}
+
 // What a slot is given comes to its pattern.
 fn push_slot_flows(
     alloc: Global,
@@ -218,6 +336,44 @@ fn push_slot_flows(
         Some(init) => {
             let from = value_of(alloc, facts, init.value.get())?;
             push_into(alloc, facts, &slot.target, &from, out)
+        }
+    }
+}
+
+fn push_stmt_flows(
+    alloc: Global,
+    facts: &Facts<'_>,
+    statement: &Stmt,
+    holder: u32,
+    out: &mut Vec<Flow>,
+) -> Result<(), OutOfMemory>
+    ensures { OnOk result (out.new.items ≡ out.old.items ++ seen.stmt_flows (facts_in facts.now) holder (out-Stmt statement.now)) }
+{
+    match statement {
+        Stmt::Return {
+            word: _,
+            value,
+            semi: _,
+        } => push_returned(alloc, facts, value, holder, out),
+        _ => Ok(()),
+    }
+}
+
+// What is given comes to what the function with this number returns.
+fn push_returned(
+    alloc: Global,
+    facts: &Facts<'_>,
+    value: &Option<Boxed<Expr>>,
+    holder: u32,
+    out: &mut Vec<Flow>,
+) -> Result<(), OutOfMemory>
+    ensures { OnOk result (out.new.items ≡ out.old.items ++ seen.returned_flows (facts_in facts.now) holder value.now) }
+{
+    match value {
+        None => Ok(()),
+        Some(value) => {
+            let from = value_of(alloc, facts, value.get())?;
+            push_flow(alloc, &from, Vertex::Ret { function: holder }, out)
         }
     }
 }

@@ -1,22 +1,27 @@
 //! Where the values of a module's expressions flow.
 //!
 //! Read `extraction`, which puts a module's lists together, then what each kind of node says: `flows`
-//! with `values` and `calls`, `required`, `notes` and `numbered`; `rules` has what the lists keep. Of the
-//! specs `Flows`, `Values`, `Calls`, `Requires`, `Numbered`, `Constraints`, `Rules` and `Vertices` are
-//! promised, `AtHand` serves proofs.
+//! with `values`, `calls`, `arguments` and `members`, `required`, `notes`, `numbered` and
+//! `used_arguments`; `rules` has what the lists keep. Of the specs `Flows`, `Values`, `Calls`,
+//! `Arguments`, `Requires`, `Numbered`, `Constraints`, `Rules` and `Vertices` are promised, `AtHand` and
+//! `Places` serve proofs.
 #![tactic(auto)]
 
+mod arguments;
 mod calls;
 mod copies;
 mod extraction;
 mod facts;
+mod flow;
 mod flows;
+mod members;
 mod module;
 mod module_constraints;
 mod notes;
 mod numbered;
 mod required;
 mod rules;
+mod used_arguments;
 mod values;
 mod vertex;
 

@@ -1,17 +1,18 @@
 //! What is noted of a module.
-ghost use Rattle.std.specs.Prelude.{◌≡◌, ◌++◌, [], OnOk, is_some, if◌then◌else◌};
+ghost use Rattle.std.specs.Prelude.{◌≡◌, ◌==◌, ◌++◌, [], OnOk, if◌then◌else◌};
 ghost use Rattle.js_tree.specs.declared.tree.Expr.{out-Expr};
 ghost use Rattle.js_tree.specs.declared.tree.Pattern.{out-Pattern};
 ghost use Rattle.js_tree.specs.declared.tree.Stmt.{out-Stmt};
-ghost use Rattle.js_tree.specs.Parts.{items_in, node_of};
+ghost use Rattle.js_tree.specs.Parts.{node_of};
 ghost use Rattle.js_scopes.specs.AtHand.{known_in};
-ghost use Rattle.js_scopes.specs.Scopes as scopes;
+ghost use Rattle.js_scopes.specs.Brackets.{elements};
+ghost use Rattle.js_scopes.specs.Calls as calls;
 ghost use Rattle.flow_rules.specs.Requires as seen;
 
 use crate::{ModuleNote, NoteKind};
 use jam_base::OutOfMemory;
-use js_scopes::{Known, is_required};
-use js_tree::{Arguments, Expr, Gather, Node, Pattern, Stmt, Tail, Token};
+use js_scopes::{Known, first_string};
+use js_tree::{Bracket, Expr, Gather, Node, Pattern, Stmt, Tail, Token};
 use sqlite_items::Boxed;
 use std::alloc::Global;
 
@@ -22,8 +23,9 @@ pub(crate) enum Standing {
     Value,
     /// As what a declaration declares.
     Declared,
-    /// As the primary of a chain.
-    Primary,
+    /// As a value, but for the name that starts at this offset: it is called, or is the object of a
+    /// member or the operand of `typeof`.
+    Beside(u32),
 }
 
 /// The notes in a node, by how it stands.
@@ -57,7 +59,7 @@ impl<'t, 'm> Gather<'t> for Notes<'m> {
 
     fn push_own(
         &self,
-        _alloc: Global,
+        alloc: Global,
         node: Node<'t>,
         around: Standing,
         out: &mut Vec<ModuleNote>,
@@ -66,7 +68,7 @@ impl<'t, 'm> Gather<'t> for Notes<'m> {
             Node::Expr(value) => push_expr_notes(self.known, value, around, out),
             Node::Pattern(pattern) => push_pattern_notes(self.known, pattern, around, out),
             Node::Tail { head, before, tail } => {
-                push_tail_notes(self.known, head, before, tail, out)
+                push_tail_notes(alloc, self.known, head, before, tail, out)
             }
             _ => Ok(()),
         }
@@ -83,10 +85,16 @@ fn standing_in(node: Node<'_>, around: Standing) -> Standing
 {
     match node {
         Node::Expr(value) => standing_in_expr(value),
+        Node::Function(_) => Standing::Declared,
+        Node::Pattern(_) => around,
         Node::Stmt(statement) => standing_in_stmt(statement),
         Node::Slot(_) => around,
-        Node::Pattern(_) => around,
-        _ => Standing::Value,
+        Node::Tail {
+            head: _,
+            before: _,
+            tail: _,
+        } => Standing::Value,
+        Node::Body(_) => Standing::Value,
     }
 }
 
@@ -94,7 +102,46 @@ fn standing_in_expr(value: &Expr) -> Standing
     ensures { result ≡ seen.standing_in_expr (out-Expr value.now) }
 {
     match value {
-        Expr::Chain { head: _, tails: _ } => Standing::Primary,
+        Expr::Chain { head, tails } => beside_head(head.get(), tails.as_slice()),
+        Expr::New {
+            word: _,
+            head,
+            tails,
+            args: _,
+        } => beside_head(head.get(), tails.as_slice()),
+        Expr::Unary { op, operand } => beside_operand(op, operand.get()),
+        _ => Standing::Value,
+    }
+}
+
+// The head is called, or is the object of a member, unless a template follows.
+fn beside_head(head: &Expr, tails: &[Tail<Boxed<Expr>>]) -> Standing
+    ensures { result ≡ seen.beside_head head.now tails.now }
+{
+    match tails {
+        [] => Standing::Value,
+        [Tail::Template(_), ..] => Standing::Value,
+        [_, ..] => beside(head),
+    }
+}
+
+// The operand of `typeof` is no value.
+fn beside_operand(op: &Token, operand: &Expr) -> Standing
+    ensures { result ≡ seen.beside_operand op.now operand.now }
+{
+    if op.text.as_str() == "typeof" {
+        beside(operand)
+    } else {
+        Standing::Value
+    }
+}
+
+// Each name is a value but the expression itself.
+fn beside(value: &Expr) -> Standing
+    ensures { result ≡ seen.beside (out-Expr value.now) }
+{
+    match value {
+        Expr::Name(token) => Standing::Beside(token.start),
         _ => Standing::Value,
     }
 }
@@ -105,7 +152,8 @@ fn standing_in_stmt(statement: &Stmt) -> Standing
     match statement {
         Stmt::Vars {
             word: _,
-            decls: _,
+            first: _,
+            rest: _,
             semi: _,
         } => Standing::Declared,
         _ => Standing::Value,
@@ -126,7 +174,7 @@ fn push_expr_notes(
     }
 }
 
-// A name that stands so: noted where it isn't the primary of a chain.
+// A name that stands so: noted where it isn't the one beside which all are values.
 fn push_used(
     known: &Known<'_>,
     token: &Token,
@@ -136,9 +184,24 @@ fn push_used(
     ensures { OnOk result (out.new.items ≡ out.old.items ++ seen.used_notes (known_in known.now) token.now standing) }
 {
     match standing {
-        Standing::Primary => Ok(()),
+        Standing::Beside(start) => push_unless(start, known, token, out),
         _ => push_name_note(known, token, out),
     }
+}
+
+// Notes a name that doesn't start there.
+fn push_unless(
+    start: u32,
+    known: &Known<'_>,
+    token: &Token,
+    out: &mut Vec<ModuleNote>,
+) -> Result<(), OutOfMemory>
+    ensures { OnOk result (out.new.items ≡ out.old.items ++ (if token.now.start == start then [] else seen.name_notes (known_in known.now) token.now)) }
+{
+    if token.start == start {
+        return Ok(());
+    }
+    push_name_note(known, token, out)
 }
 
 fn push_pattern_notes(
@@ -188,6 +251,7 @@ fn push_name_note(
 }
 
 fn push_tail_notes(
+    alloc: Global,
     known: &Known<'_>,
     head: &Expr,
     before: &[Tail<Boxed<Expr>>],
@@ -198,25 +262,38 @@ fn push_tail_notes(
 {
     match tail {
         Tail::Member { dot: _, name: _ } => Ok(()),
+        Tail::Index {
+            open: _,
+            value: _,
+            close: _,
+        } => Ok(()),
         Tail::Call(arguments) => {
-            push_call_note(known.is_require_alone(head, before), arguments, out)
+            push_call_note(alloc, known.is_require_alone(head, before), arguments, out)
         }
+        Tail::Template(_) => Ok(()),
     }
 }
 
 // The note of a call of `require` without a string.
 fn push_call_note(
+    alloc: Global,
     required: bool,
-    arguments: &Arguments<Boxed<Expr>>,
+    arguments: &Bracket<Boxed<Expr>>,
     out: &mut Vec<ModuleNote>,
 ) -> Result<(), OutOfMemory>
-    ensures { OnOk result (out.new.items ≡ out.old.items ++ (if required then seen.call_notes arguments.now.open.start (scopes.first_string (items_in arguments.now.items)) else [])) }
+    ensures { OnOk result (out.new.items ≡ out.old.items ++ (if required then seen.call_notes arguments.now.open.start (calls.first_string (elements arguments.now)) else [])) }
 {
-    if required && !is_required(true, arguments.items.as_slice()) {
-        out.push(ModuleNote {
-            offset: arguments.open.start,
-            kind: NoteKind::DynamicRequire,
-        })?;
+    if !required {
+        return Ok(());
     }
-    Ok(())
+    match first_string(alloc, arguments)? {
+        Some(_) => Ok(()),
+        None => {
+            out.push(ModuleNote {
+                offset: arguments.open.start,
+                kind: NoteKind::DynamicRequire,
+            })?;
+            Ok(())
+        }
+    }
 }

@@ -1,12 +1,15 @@
 //! The numbered expressions of a module.
-ghost use Rattle.std.specs.Prelude.{◌≡◌, ◌++◌, [], OnOk};
+ghost use Rattle.std.specs.Prelude.{◌≡◌, ◌==◌, ◌++◌, ◌∷◌, [], if◌then◌else◌, OnOk};
 ghost use Rattle.js_tree.specs.declared.tree.Expr.{out-Expr};
+ghost use Rattle.js_scopes.specs.Brackets.{listed};
+ghost use Rattle.js_scopes.specs.Calls.{last_member};
 ghost use Rattle.flow_rules.specs.Numbered as seen;
+ghost use Rattle.flow_rules.specs.Values as values;
 
-use crate::values::is_numbered;
+use crate::values::{OR, choice_mark, is_numbered, operator_mark};
 use jam_base::OutOfMemory;
-use js_scopes::member_of;
-use js_tree::{Expr, Gather, Node, Tail};
+use js_scopes::last_member;
+use js_tree::{Expr, Further, Gather, Node, Tail};
 use sqlite_items::Boxed;
 use std::alloc::Global;
 
@@ -35,13 +38,13 @@ impl<'t> Gather<'t> for Numbered {
 
     fn push_own(
         &self,
-        _alloc: Global,
+        alloc: Global,
         node: Node<'t>,
         _around: (),
         out: &mut Vec<u32>,
     ) -> Result<(), OutOfMemory> {
         match node {
-            Node::Expr(value) => push_numbered(value, out),
+            Node::Expr(value) => push_numbered(alloc, value, out),
             _ => Ok(()),
         }
     }
@@ -51,28 +54,62 @@ impl<'t> Gather<'t> for Numbered {
     }
 }
 
-fn push_numbered(value: &Expr, out: &mut Vec<u32>) -> Result<(), OutOfMemory>
+fn push_numbered(alloc: Global, value: &Expr, out: &mut Vec<u32>) -> Result<(), OutOfMemory>
     ensures { OnOk result (out.new.items ≡ out.old.items ++ seen.numbered_in_expr (out-Expr value.now)) }
 {
     match value {
-        Expr::Chain { head: _, tails } => push_calls(tails.as_slice(), out),
+        Expr::Chain { head: _, tails } => push_calls(alloc, tails.as_slice(), out),
+        Expr::Binary {
+            level,
+            first: _,
+            rest,
+        } => push_operands(*level, rest.as_slice(), out),
+        Expr::Cond { arms, last: _ } => push_mark(choice_mark(arms.as_slice()), out),
         _ => Ok(()),
     }
 }
 
+// Operands have a number with `||` between them.
+fn push_operands(
+    level: u8,
+    rest: &[Further<Boxed<Expr>>],
+    out: &mut Vec<u32>,
+) -> Result<(), OutOfMemory>
+    ensures { OnOk result (out.new.items ≡ out.old.items ++ (if level == values.OR then listed (values.operator_mark rest.now) else [])) }
+{
+    if level == OR {
+        return push_mark(operator_mark(rest), out);
+    }
+    Ok(())
+}
+
+fn push_mark(mark: Option<u32>, out: &mut Vec<u32>) -> Result<(), OutOfMemory>
+    ensures { OnOk result (out.new.items ≡ out.old.items ++ listed mark) }
+{
+    if let Some(offset) = mark {
+        out.push(offset)?;
+    }
+    Ok(())
+}
+
 // The calls among the tails that have a number, the last first.
-fn push_calls(tails: &[Tail<Boxed<Expr>>], out: &mut Vec<u32>) -> Result<(), OutOfMemory>
+fn push_calls(
+    alloc: Global,
+    tails: &[Tail<Boxed<Expr>>],
+    out: &mut Vec<u32>,
+) -> Result<(), OutOfMemory>
     ensures { OnOk result (out.new.items ≡ out.old.items ++ seen.numbered_calls [] tails.now) }
 {
     let mut left = tails.len();
     while left > 0 {
         left -= 1;
-        push_call(&tails[..left], &tails[left], out)?;
+        push_tail(alloc, &tails[..left], &tails[left], out)?;
     }
     Ok(())
 }
 
-fn push_call(
+fn push_tail(
+    alloc: Global,
     before: &[Tail<Boxed<Expr>>],
     tail: &Tail<Boxed<Expr>>,
     out: &mut Vec<u32>,
@@ -81,11 +118,27 @@ fn push_call(
 {
     match tail {
         Tail::Member { dot: _, name: _ } => Ok(()),
-        Tail::Call(arguments) => {
-            if is_numbered(member_of(before)) {
-                out.push(arguments.open.start)?;
-            }
-            Ok(())
-        }
+        Tail::Index {
+            open: _,
+            value: _,
+            close: _,
+        } => Ok(()),
+        Tail::Call(arguments) => push_call(alloc, before, arguments.open.start, out),
+        Tail::Template(_) => Ok(()),
     }
+}
+
+fn push_call(
+    alloc: Global,
+    before: &[Tail<Boxed<Expr>>],
+    offset: u32,
+    out: &mut Vec<u32>,
+) -> Result<(), OutOfMemory>
+    ensures { OnOk result (out.new.items ≡ out.old.items ++ (if values.is_numbered (last_member before.now) then offset ∷ [] else [])) }
+{
+    let member = last_member(alloc, before)?;
+    if is_numbered(&member) {
+        out.push(offset)?;
+    }
+    Ok(())
 }

@@ -1,17 +1,14 @@
 //! The requires of a module.
-ghost use Rattle.std.specs.Prelude.{◌≡◌, ◌-◌, ◌++◌, [], IfNone, IfOk, OnOk, drop, length, if◌then◌else◌};
-ghost use Rattle.std.specs.Option.{IfSome};
-ghost use Rattle.std.specs.Str.{IsCharBoundary};
-ghost use Rattle.js_tree.specs.declared.tree.Expr.{out-Expr};
-ghost use Rattle.js_tree.specs.Parts.{items_in};
+ghost use Rattle.std.specs.Prelude.{◌≡◌, ◌++◌, [], OnOk, if◌then◌else◌};
 ghost use Rattle.js_scopes.specs.AtHand.{known_in};
-ghost use Rattle.js_scopes.specs.Scopes as scopes;
+ghost use Rattle.js_scopes.specs.Brackets.{elements};
+ghost use Rattle.js_scopes.specs.Calls as calls;
 ghost use Rattle.flow_rules.specs.Requires as seen;
 
 use crate::Require;
-use jam_base::{OutOfMemory, Text};
-use js_scopes::Known;
-use js_tree::{Arguments, Expr, Gather, Listed, Node, Tail, Token, TokenClass};
+use jam_base::OutOfMemory;
+use js_scopes::{Known, first_string};
+use js_tree::{Bracket, Expr, Gather, Node, Tail};
 use sqlite_items::Boxed;
 use std::alloc::Global;
 
@@ -23,7 +20,7 @@ pub(crate) struct Requires<'m> {
 
 impl<'t, 'm> Gather<'t> for Requires<'m> {
     ghost use Rattle.std.specs.Prelude.{ℕ, Some};
-    ghost use Rattle.js_scopes.specs.Scopes.{holder_in};
+    ghost use Rattle.js_scopes.specs.Calls.{holder_in};
     ghost use Rattle.js_scopes.specs.AtHand.{known_in as known_at_hand};
     ghost use Rattle.flow_rules.specs.declared.module.Require.{Require as GhostRequire};
     ghost use Rattle.flow_rules.specs.Requires.{own_requires};
@@ -77,10 +74,16 @@ fn push_tail_requires(
 {
     match tail {
         Tail::Member { dot: _, name: _ } => Ok(()),
+        Tail::Index {
+            open: _,
+            value: _,
+            close: _,
+        } => Ok(()),
         Tail::Call(arguments) => {
             let required = known.is_require_alone(head, before);
             push_call_require(alloc, required, arguments, holder, out)
         }
+        Tail::Template(_) => Ok(()),
     }
 }
 
@@ -88,16 +91,16 @@ fn push_tail_requires(
 fn push_call_require(
     alloc: Global,
     required: bool,
-    arguments: &Arguments<Boxed<Expr>>,
+    arguments: &Bracket<Boxed<Expr>>,
     holder: u32,
     out: &mut Vec<Require>,
 ) -> Result<(), OutOfMemory>
-    ensures { OnOk result (out.new.items ≡ out.old.items ++ (if required then seen.call_requires arguments.now.open.start holder (scopes.first_string (items_in arguments.now.items)) else [])) }
+    ensures { OnOk result (out.new.items ≡ out.old.items ++ (if required then seen.call_requires arguments.now.open.start holder (calls.first_string (elements arguments.now)) else [])) }
 {
     if !required {
         return Ok(());
     }
-    match first_string(alloc, arguments.items.as_slice())? {
+    match first_string(alloc, arguments)? {
         None => Ok(()),
         Some(spec) => {
             out.push(Require {
@@ -108,48 +111,4 @@ fn push_call_require(
             Ok(())
         }
     }
-}
-
-// The value of the first argument, where it is a string.
-fn first_string(alloc: Global, items: &[Listed<Boxed<Expr>>]) -> Result<Option<Text>, OutOfMemory>
-    ensures { IfOk result (λ v. v ≡ scopes.first_string (items_in items.now)) }
-{
-    match items.first() {
-        None => Ok(None),
-        Some(listed) => string_in(alloc, listed.item.get()),
-    }
-}
-
-// The value of the string that an expression is.
-fn string_in(alloc: Global, value: &Expr) -> Result<Option<Text>, OutOfMemory>
-    ensures { IfOk result (λ v. v ≡ scopes.string_in (out-Expr value.now)) }
-{
-    match value {
-        Expr::Literal(token) => string_of(alloc, token),
-        _ => Ok(None),
-    }
-}
-
-// The value of the token, where it is a string.
-fn string_of(alloc: Global, token: &Token) -> Result<Option<Text>, OutOfMemory>
-    ensures { IfOk result (λ v. v ≡ scopes.string_of token.now) }
-{
-    if token.class != TokenClass::Str {
-        return Ok(None);
-    }
-    match between_quotes(token.text.as_str()) {
-        Some(text) => Ok(Some(Text::of(alloc, text)?)),
-        None => Err(OutOfMemory),
-    }
-}
-
-// What stands between the quotes; each string token of a text has a quote at either end, so that none is
-// without it.
-fn between_quotes(text: &str) -> Option<&str>
-    ensures some { IfSome result (λ x. x.now ≡ scopes.between_quotes text.now) }
-    ensures none { IfNone result (IsCharBoundary text.now 1 → IsCharBoundary (drop 1 text.now) (length text.now - 2) → ⊥) }
-{
-    let (_, behind) = text.split_at_checked(1)?;
-    let (inner, _) = behind.split_at_checked(text.len().saturating_sub(2))?;
-    Some(inner)
 }

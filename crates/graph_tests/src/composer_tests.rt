@@ -1,7 +1,7 @@
 ghost use Rattle.std.specs.Prelude.{◌≡◌, ◌<◌};
 
 use composer::{Graph, Part, SIZE_LIMIT, compose, size_of};
-use flow_fold::fold;
+use flow_fold::{Summary, fold};
 use flow_rules::{Constraints, Flow, Require, Vertex};
 use jam_base::{Edge, FunctionRef, List, ModulePath, OutOfMemory, Steps, Text};
 use js_scopes::{FunctionInfo, SiteInfo};
@@ -172,5 +172,37 @@ fn the_size_counts_functions_sites_requires_and_flows(rt: HostRuntime) -> Result
     })?;
     let parts = [part(alloc, &[0, 5], sites, requires_, flows)?];
     assert!(rt; size_of(&parts) == 126);
+    Ok(())
+}
+
+// A part whose body has so many parameters, and whose text gives so many flows, of which none is kept.
+fn wide_part(alloc: Global, params: u32, made: u32) -> Result<Part, OutOfMemory> {
+    let lists = Constraints::of(
+        functions(alloc, &[params])?,
+        List::of(Vec::new(alloc)),
+        List::of(Vec::new(alloc)),
+        List::of(Vec::new(alloc)),
+        List::of(Vec::new(alloc)),
+    );
+    let Some(lists) = lists else {
+        return Err(OutOfMemory);
+    };
+    let summary = Summary::of(alloc, lists, made)?;
+    let path = ModulePath::read(alloc, "a.js")?;
+    match (summary, path) {
+        (Some(summary), Some(path)) => Ok(Part { path, summary }),
+        _ => Err(OutOfMemory),
+    }
+}
+
+#[test]
+fn parts_may_have_a_size_of_4294967294(rt: HostRuntime) -> Result<(), OutOfMemory> {
+    let alloc = rt.alloc();
+    let wider = [wide_part(alloc, 1, 2_147_483_595)?];
+    assert!(rt; size_of(&wider) == SIZE_LIMIT);
+    let widest = wide_part(alloc, 0, 2_147_483_595)?;
+    let graph = graph_of::<Brand>(alloc, widest, Blank::new(1))?;
+    assert!(rt; graph.edges().is_empty());
+    assert!(rt; graph.functions() == 1);
     Ok(())
 }

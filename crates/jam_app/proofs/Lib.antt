@@ -27,3 +27,4 @@ pub mod TreeLemmas
 pub mod Whole
 pub mod WholeGraph
 pub mod Wide
+pub mod Within

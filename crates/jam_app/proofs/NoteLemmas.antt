@@ -20,8 +20,8 @@ use Rattle.jam_app.specs.Loading.{IsKept, missing_by, module_of}
 use Rattle.jam_app.specs.Notes.{all_noted, all_notes, is_owned, loaded_notes, lock_noted, missing_noted, module_notes, note_at, noted_of, noted_order, notes_owed, own_noted, skip_noted, unversioned_note}
 
 noted_same : (skip : Bool) (files : Files) (entries : List LockEntry) (l : Loaded) → IsKept skip files l → loaded_notes entries l ≡ module_notes files entries (module_of l)
-noted_same skip files entries l kept = ap (λ ns. map (note_at l.path (place_text l.bytes.items)) (ascending noted_order ns)) (λ i.
-    lock_noted (is_owned entries l.path) ++ map own_noted (ap (λ (c : ModuleConstraints). c.notes) kept.summary.whole i) ++ map missing_noted (kept.missing i) ++ skip_noted l.skipped (length l.bytes.items))
+noted_same skip files entries l kept = ap (λ ns. map (note_at l.path (place_text l.text)) (ascending noted_order ns)) (λ i.
+    lock_noted (is_owned entries l.path) ++ map own_noted (ap (λ (c : ModuleConstraints). c.notes) kept.summary.whole i) ++ map missing_noted (kept.missing i) ++ skip_noted l.skipped (length l.text))
 
 pub notes_same : (skip : Bool) (files : Files) (entries : List LockEntry) (advisories : List Advisory) (loaded : List Loaded) → All (IsKept skip files) loaded
     → all_notes entries advisories loaded ≡ notes_owed files entries advisories (map module_of loaded)
@@ -53,5 +53,5 @@ owned_is entries path (Some place) (e, at, owner) = sym (one_owned path entries 
 
 -- the notes of what is noted of a module
 pub noted_is : (entries : List LockEntry) (l : Loaded) (owned : Bool) (noted : List Noted) → owned ≡ is_owned entries l.path → noted ≡ ascending noted_order (all_noted owned l)
-    → map (note_at l.path (place_text l.bytes.items)) noted ≡ loaded_notes entries l
-noted_is entries l owned noted is made = ap (map (note_at l.path (place_text l.bytes.items))) (made ∙ ap (λ b. ascending noted_order (all_noted b l)) is)
+    → map (note_at l.path (place_text l.text)) noted ≡ loaded_notes entries l
+noted_is entries l owned noted is made = ap (map (note_at l.path (place_text l.text))) (made ∙ ap (λ b. ascending noted_order (all_noted b l)) is)

@@ -10,8 +10,8 @@ use Rattle.js_tree.specs.Spells.{limit}
 use Rattle.composer.proofs.Members.{here}
 use Rattle.jam_app.specs.declared.answers.refusal.Refusal.{Refusal}
 use Rattle.jam_app.specs.declared.answers.refusal.Refusal.TheVariants as refusal
-use Rattle.jam_app.specs.Refusals.{IsFirstBad, IsOneTooMany, IsReached, IsLoadRefusal, IsRefusal, IsTooWide, ReadsFiles, advisories, counted_bytes, load, lock, no_entry, not_in_profile, too_large, too_many, too_wide, without_place}
-use Rattle.jam_app.specs.Rounds.{Fits, IsApplication, IsRound, bytes_at}
+use Rattle.jam_app.specs.Refusals.{IsFirstBad, IsOneTooMany, IsReached, IsLoadRefusal, IsRefusal, IsTooWide, ReadsFiles, advisories, construct, counted_bytes, load, lock, no_entry, not_in_profile, too_large, too_many, too_wide, without_place}
+use Rattle.jam_app.specs.Rounds.{Fits, IsApplication, IsRound, text_at}
 use Rattle.lock_reader.specs.declared.lock.LockEntry.{LockEntry}
 use Rattle.advisory_reader.specs.declared.advisory.Advisory.{Advisory}
 use Rattle.word_reader.specs.declared.table.Command.{Command}
@@ -64,12 +64,12 @@ module _ (m : Files) (start : Start) where
       (subst (λ n. IsRound m r.entry n c (g ++ q ∷ k)) (sym same) (subst (λ (e : List ℕ). IsRound m e s.number c (g ++ q ∷ k)) (same_Some s.entry r.entry (sym s.found ∙ r.found)) s.is_round))
 
   -- no later round is reached behind a bad module
-  later_bad : (b f : List (List ℕ)) (p : List ℕ) (h c g : List (List ℕ)) (q : List ℕ) (k : List (List ℕ)) (r : IsReached start m b f p h) (s : IsReached start m c g q k) → start.skip ≡ false → IsBad (bytes_at m p) → r.number < s.number → ⊥
+  later_bad : (b f : List (List ℕ)) (p : List ℕ) (h c g : List (List ℕ)) (q : List ℕ) (k : List (List ℕ)) (r : IsReached start m b f p h) (s : IsReached start m c g q k) → start.skip ≡ false → IsBad (text_at m p) → r.number < s.number → ⊥
   later_bad b f p h c g q k r s unskipped is_bad lt =
       let all = before_later b f p h c g q k r s lt in
       let inside : Contains c p = subst (λ (ps : List (List ℕ)). Contains ps p) (sym all.1)
       (Contains-append_left (b ++ (f ++ p ∷ h)) all.0 p (Contains-append_right b (f ++ p ∷ h) p (Contains-append_right f (p ∷ h) p (here p h)))) in
-      All-contains (λ (x : List ℕ). IsBad (bytes_at m x) → ⊥) c p (s.none_bad unskipped) inside is_bad
+      All-contains (λ (x : List ℕ). IsBad (text_at m x) → ⊥) c p (s.none_bad unskipped) inside is_bad
 
   -- nor behind one that is one too many, where the modules before that round are within the limits
   later_over : (e : List (List ℕ)) (p : List ℕ) (one : IsOneTooMany start m e p) (c g : List (List ℕ)) (q : List ℕ) (k : List (List ℕ)) (s : IsReached start m c g q k) → Fits m c → one.reached.number < s.number → ⊥
@@ -136,34 +136,50 @@ module _ (m : Files) (start : Start) where
           elim (split one.front other.front p q one.behind other.behind both.1) [
             | inl (fronts, paths) ↦ paths
             | inr apart ↦ elim apart [
-              | inl (rest, is) ↦ absurd (All-contains (λ (x : List ℕ). IsBad (bytes_at m x) → ⊥) other.front p other.none_bad (in_front other.front one.front rest p is) one.bad)
-              | inr (rest, is) ↦ absurd (All-contains (λ (x : List ℕ). IsBad (bytes_at m x) → ⊥) one.front q one.none_bad (in_front one.front other.front rest q is) other.bad)
+              | inl (rest, is) ↦ absurd (All-contains (λ (x : List ℕ). IsBad (text_at m x) → ⊥) other.front p other.none_bad (in_front other.front one.front rest p is) one.bad)
+              | inr (rest, is) ↦ absurd (All-contains (λ (x : List ℕ). IsBad (text_at m x) → ⊥) one.front q one.none_bad (in_front one.front other.front rest q is) other.bad)
             ]
           ]
           )
     ]
   ]
 
+  -- one text is too large or within the limit
+  large_and_small : (p q : List ℕ) → IsFirstBad start m p → IsFirstBad start m q → limit < length (text_at m p) → length (text_at m q) ≤ limit → ⊥
+  large_and_small p q one other over within =
+      let same : length (text_at m p) ≡ length (text_at m q) = ap (λ (x : List ℕ). length (text_at m x)) (bad_twice p q one other) in omega (arith, over, within, same)
+
+  -- texts outside the profile
+  outside : (p q : List ℕ) → IsFirstBad start m p → IsFirstBad start m q → refusal.NotInProfile p 0 ≡ refusal.NotInProfile q 0
+  outside p q one other = ap (λ (x : List ℕ). refusal.NotInProfile x 0) (bad_twice p q one other)
+
   pub one_load : (one other : Refusal) → IsLoadRefusal start m one → IsLoadRefusal start m other → without_place one ≡ without_place other
   one_load one other (no_entry a) (no_entry b) = refl
-  one_load one other (no_entry a) (too_many e p b) = absurd (none-some b.reached.entry (sym a ∙ b.reached.found))
-  one_load one other (no_entry a) (too_large p b over) = absurd (none-some b.reached.entry (sym a ∙ b.reached.found))
-  one_load one other (no_entry a) (not_in_profile p at b within refused) = absurd (none-some b.reached.entry (sym a ∙ b.reached.found))
+  one_load one other (no_entry a) (too_many d q b) = absurd (none-some b.reached.entry (sym a ∙ b.reached.found))
+  one_load one other (no_entry a) (too_large q b more) = absurd (none-some b.reached.entry (sym a ∙ b.reached.found))
+  one_load one other (no_entry a) (construct q place which b small because) = absurd (none-some b.reached.entry (sym a ∙ b.reached.found))
+  one_load one other (no_entry a) (not_in_profile q place b small because) = absurd (none-some b.reached.entry (sym a ∙ b.reached.found))
   one_load one other (too_many e p a) (no_entry b) = absurd (none-some a.reached.entry (sym b ∙ a.reached.found))
   one_load one other (too_many e p a) (too_many d q b) =
       let same = many_twice e d p q a b in λ i. refusal.TooMany (length (same.0 i) + 1) (counted_bytes m (same.0 i) (same.1 i))
-  one_load one other (too_many e p a) (too_large q b over) = absurd (many_bad e p q a b)
-  one_load one other (too_many e p a) (not_in_profile q at b within refused) = absurd (many_bad e p q a b)
+  one_load one other (too_many e p a) (too_large q b more) = absurd (many_bad e p q a b)
+  one_load one other (too_many e p a) (construct q place which b small because) = absurd (many_bad e p q a b)
+  one_load one other (too_many e p a) (not_in_profile q place b small because) = absurd (many_bad e p q a b)
   one_load one other (too_large p a over) (no_entry b) = absurd (none-some a.reached.entry (sym b ∙ a.reached.found))
-  one_load one other (too_large p a over) (too_many e q b) = absurd (many_bad e q p b a)
-  one_load one other (too_large p a over) (too_large q b more) = ap (λ (x : List ℕ). refusal.TooLarge x (length (bytes_at m x))) (bad_twice p q a b)
-  one_load one other (too_large p a over) (not_in_profile q at b within refused) =
-      let same : length (bytes_at m p) ≡ length (bytes_at m q) = ap (λ (x : List ℕ). length (bytes_at m x)) (bad_twice p q a b) in absurd (omega (arith, over, within, same))
+  one_load one other (too_large p a over) (too_many d q b) = absurd (many_bad d q p b a)
+  one_load one other (too_large p a over) (too_large q b more) = ap (λ (x : List ℕ). refusal.TooLarge x (length (text_at m x))) (bad_twice p q a b)
+  one_load one other (too_large p a over) (construct q place which b small because) = absurd (large_and_small p q a b over small)
+  one_load one other (too_large p a over) (not_in_profile q place b small because) = absurd (large_and_small p q a b over small)
+  one_load one other (construct p at what a within refused) (no_entry b) = absurd (none-some a.reached.entry (sym b ∙ a.reached.found))
+  one_load one other (construct p at what a within refused) (too_many d q b) = absurd (many_bad d q p b a)
+  one_load one other (construct p at what a within refused) (too_large q b more) = absurd (large_and_small q p b a more within)
+  one_load one other (construct p at what a within refused) (construct q place which b small because) = outside p q a b
+  one_load one other (construct p at what a within refused) (not_in_profile q place b small because) = outside p q a b
   one_load one other (not_in_profile p at a within refused) (no_entry b) = absurd (none-some a.reached.entry (sym b ∙ a.reached.found))
-  one_load one other (not_in_profile p at a within refused) (too_many e q b) = absurd (many_bad e q p b a)
-  one_load one other (not_in_profile p at a within refused) (too_large q b over) =
-      let same : length (bytes_at m p) ≡ length (bytes_at m q) = ap (λ (x : List ℕ). length (bytes_at m x)) (bad_twice p q a b) in absurd (omega (arith, over, within, same))
-  one_load one other (not_in_profile p at a within refused) (not_in_profile q place b small because) = ap (λ (x : List ℕ). refusal.NotInProfile x 0) (bad_twice p q a b)
+  one_load one other (not_in_profile p at a within refused) (too_many d q b) = absurd (many_bad d q p b a)
+  one_load one other (not_in_profile p at a within refused) (too_large q b more) = absurd (large_and_small q p b a more within)
+  one_load one other (not_in_profile p at a within refused) (construct q place which b small because) = outside p q a b
+  one_load one other (not_in_profile p at a within refused) (not_in_profile q place b small because) = outside p q a b
 
 -- ---- a request
 

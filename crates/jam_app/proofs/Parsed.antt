@@ -15,7 +15,7 @@ use Rattle.jam_app.proofs.PrintLemmas.{map_map}
 use Rattle.jam_app.proofs.TreeLemmas.{spells_some}
 
 pub all_spell : (skip : Bool) (parsed : List Parsed) → All (IsParsed skip) parsed → All (λ p. SpellsSome p.tree) parsed
-all_spell skip parsed all = All-weaker (IsParsed skip) (λ p. SpellsSome p.tree) (λ p is. spells_some skip p.source.bytes.items p.tree p.skipped is) parsed all
+all_spell skip parsed all = All-weaker (IsParsed skip) (λ p. SpellsSome p.tree) (λ p is. spells_some skip p.source.text p.tree p.skipped is) parsed all
 
 -- a module is kept where its tree is the one that is worked with and its requires are resolved
 kept : (skip : Bool) (m : Files) (l : Loaded) → IsParsed skip (parsed_of l) → IsResolved m l → IsKept skip m l

@@ -1,5 +1,5 @@
 -- What is printed of modules.
-use Rattle.std.proofs.Common.{◌≡◌, ℕ, ◌+◌, ◌<◌, ◌≤◌, Bool, true, false, ◌&&◌, if◌then◌else◌, nat_le, List, [], ◌∷◌, ◌++◌, map, length, take, get_or, refl, sym, ap, ◌∙◌, arith, append_assoc}
+use Rattle.std.proofs.Common.{◌≡◌, ℕ, ◌+◌, ◌<◌, ◌≤◌, Bool, true, false, if◌then◌else◌, nat_le, List, [], ◌∷◌, ◌++◌, map, length, take, get_or, refl, sym, ap, ◌∙◌, arith, append_assoc}
 use Rattle.std.specs.Prelude.{slice_get, Some, None}
 use Rattle.std.specs.List.{HoldsAt}
 use Rattle.std.specs.Ordering.{nat_cmp}
@@ -11,9 +11,6 @@ use Rattle.jam_base.specs.declared.edge.Edge.{Edge}
 use Rattle.std.proofs.lemmas.Bool.Decides.{nat_tests}
 use Rattle.js_tree.specs.Spells.{limit}
 use Rattle.jam_app.specs.Graphs.{place_text}
-use Rattle.jam_app.specs.Texts.{is_ascii}
-use Rattle.jam_app.proofs.Refusing.{ascii_bytes}
-use Rattle.std.specs.Str.{IsAscii}
 use Rattle.jam_app.specs.Printing.{PrintedModule, call_in, edge_among, function_among}
 use Rattle.std.proofs.lemmas.List.{take_more, map-append, get_or-map, length-map}
 
@@ -71,34 +68,19 @@ over n m lt = grind (arith, nat_tests)
 at_most : (n m : ℕ) → n ≤ m → nat_le n m ≡ true
 at_most n m le = grind (arith, nat_tests)
 
-pub text_of_large : (bytes : List ℕ) → limit < length bytes → [] ≡ place_text bytes
-text_of_large bytes large = sym (ap (λ (b : Bool). if b && is_ascii bytes then bytes else []) (over (length bytes) limit large))
+pub text_of_large : (text : List ℕ) → limit < length text → [] ≡ place_text text
+text_of_large text large = sym (ap (λ (b : Bool). if b then text else []) (over (length text) limit large))
 
-pub text_of_ascii : (bytes : List ℕ) → length bytes ≤ limit → is_ascii bytes ≡ true → bytes ≡ place_text bytes
-text_of_ascii bytes small ascii = λ i. if sym (at_most (length bytes) limit small) i && sym ascii i then bytes else []
-
-pub text_of_other : (bytes : List ℕ) → length bytes ≤ limit → is_ascii bytes ≡ false → [] ≡ place_text bytes
-text_of_other bytes small other = λ i. if sym (at_most (length bytes) limit small) i && sym other i then bytes else []
+pub text_of_small : (text : List ℕ) → length text ≤ limit → text ≡ place_text text
+text_of_small text small = sym (ap (λ (b : Bool). if b then text else []) (at_most (length text) limit small))
 
 small : (n m : ℕ) → nat_le n m ≡ true → n ≤ m
 small n m le = grind (arith, nat_tests)
 
--- it is ASCII, and short
-pub text_ascii : (bytes : List ℕ) → IsAscii (place_text bytes)
-text_ascii bytes = by (nat_le (length bytes) limit) (is_ascii bytes) refl
+-- it is short
+pub text_short : (text : List ℕ) → length (place_text text) < 4294967295
+text_short text = by (nat_le (length text) limit) refl
   where
-    none : IsAscii []
-    none i = omega arith
-
-    by : (s a : Bool) → is_ascii bytes ≡ a → IsAscii (if s && a then bytes else [])
-    by true true e = ascii_bytes bytes e
-    by true false e = none
-    by false a e = none
-
-pub text_short : (bytes : List ℕ) → length (place_text bytes) < 4294967295
-text_short bytes = by (nat_le (length bytes) limit) (is_ascii bytes) refl
-  where
-    by : (s a : Bool) → nat_le (length bytes) limit ≡ s → length (if s && a then bytes else []) < 4294967295
-    by true true e = omega (arith, small (length bytes) limit e)
-    by true false e = omega arith
-    by false a e = omega arith
+    by : (s : Bool) → nat_le (length text) limit ≡ s → length (if s then text else []) < 4294967295
+    by true e = omega (arith, small (length text) limit e)
+    by false e = omega arith

@@ -12,35 +12,35 @@ use Rattle.jam_app.specs.declared.answers.stop.Stop.{Stop}
 use Rattle.jam_app.specs.Reading.{HasExcess, IsExcess, file_at, file_of, size_of}
 use Rattle.jam_app.specs.Stops.{HasStopCause, Refuses}
 use Rattle.jam_app.proofs.Causes.{any_files, refused_stop, told}
-use Rattle.jam_app.specs.Rounds.{bytes_at, module_limit, total_bytes}
+use Rattle.jam_app.specs.Rounds.{text_at, module_limit, total_bytes}
 
 pub total_append : (m : Files) (xs ys : List (List ℕ)) → total_bytes m (xs ++ ys) ≡ total_bytes m xs + total_bytes m ys
 total_append m [] ys = sym (zero-add (total_bytes m ys))
-total_append m (x ∷ xs) ys = ap (λ n. length (bytes_at m x) + n) (total_append m xs ys) ∙ sym (add_assoc (length (bytes_at m x)) (total_bytes m xs) (total_bytes m ys))
+total_append m (x ∷ xs) ys = ap (λ n. length (text_at m x) + n) (total_append m xs ys) ∙ sym (add_assoc (length (text_at m x)) (total_bytes m xs) (total_bytes m ys))
 
 -- one more file
-pub total_push : (m : Files) (xs : List (List ℕ)) (path : List ℕ) → total_bytes m (xs ++ path ∷ []) ≡ total_bytes m xs + length (bytes_at m path)
+pub total_push : (m : Files) (xs : List (List ℕ)) (path : List ℕ) → total_bytes m (xs ++ path ∷ []) ≡ total_bytes m xs + length (text_at m path)
 total_push m xs path = total_append m xs (path ∷ []) ∙ omega arith
 
 -- the size with one more file
-pub size_push : (m : Files) (size : Size) (earlier : List (List ℕ)) (path bytes : List ℕ) → size ≡ size_of m earlier → bytes ≡ bytes_at m path
-    → ◌≡◌ {A = Size} (record { modules = size.modules + 1; bytes = size.bytes + length bytes }) (size_of m (earlier ++ path ∷ []))
-size_push m size earlier path bytes is read =
+pub size_push : (m : Files) (size : Size) (earlier : List (List ℕ)) (path text : List ℕ) → size ≡ size_of m earlier → text ≡ text_at m path
+    → ◌≡◌ {A = Size} (record { modules = size.modules + 1; bytes = size.bytes + length text }) (size_of m (earlier ++ path ∷ []))
+size_push m size earlier path text is read =
     let modules : size.modules + 1 ≡ length (earlier ++ path ∷ []) = ap (λ (s : Size). s.modules + 1) is ∙ sym (length-append earlier (path ∷ [])) in
-    let all : size.bytes + length bytes ≡ total_bytes m (earlier ++ path ∷ []) = ap (λ (s : Size). s.bytes + length bytes) is ∙ ap (λ (bs : List ℕ). total_bytes m earlier + length bs) read ∙ sym (total_push m earlier path) in
+    let all : size.bytes + length text ≡ total_bytes m (earlier ++ path ∷ []) = ap (λ (s : Size). s.bytes + length text) is ∙ ap (λ (t : List ℕ). total_bytes m earlier + length t) read ∙ sym (total_push m earlier path) in
     λ i. record { modules = modules i; bytes = all i }
 
--- a file with more bytes than there is room for
-pub excess_bytes : (m : Files) (size : Size) (earlier : List (List ℕ)) (path bytes : List ℕ) → size.modules + 1 ≤ 16384 → size.bytes ≤ 67108864 → 67108864 < size.bytes + length bytes
-    → bytes ≡ bytes_at m path → size ≡ size_of m earlier → IsExcess m earlier path (refusal.TooMany (size.modules + 1) (size.bytes + length bytes))
-excess_bytes m size earlier path bytes few room over read is =
+-- a text with more bytes than there is room for
+pub excess_bytes : (m : Files) (size : Size) (earlier : List (List ℕ)) (path text : List ℕ) → size.modules + 1 ≤ 16384 → size.bytes ≤ 67108864 → 67108864 < size.bytes + length text
+    → text ≡ text_at m path → size ≡ size_of m earlier → IsExcess m earlier path (refusal.TooMany (size.modules + 1) (size.bytes + length text))
+excess_bytes m size earlier path text few room over read is =
     let modules : size.modules ≡ length earlier = ap (λ (s : Size). s.modules) is in
     let all : size.bytes ≡ total_bytes m earlier = ap (λ (s : Size). s.bytes) is in
-    let longer : length bytes ≡ length (bytes_at m path) = ap length read in
+    let longer : length text ≡ length (text_at m path) = ap length read in
     record {
       fit = record { modules = omega arith; bytes = omega arith };
       over = λ fits. absurd (omega (arith, fits.bytes, total_push m earlier path));
-      is = (λ i. refusal.TooMany (modules i + 1) (all i + longer i)) ∙ ap (λ b. refusal.TooMany (length earlier + 1) (total_bytes m earlier + cond b (length (bytes_at m path)) 0)) (sym (is_below (length earlier) (omega arith)));
+      is = (λ i. refusal.TooMany (modules i + 1) (all i + longer i)) ∙ ap (λ b. refusal.TooMany (length earlier + 1) (total_bytes m earlier + cond b (length (text_at m path)) 0)) (sym (is_below (length earlier) (omega arith)));
     }
   where
     is_below : (n : ℕ) → n + 1 ≤ 16384 → nat_lt n module_limit ≡ true
@@ -56,7 +56,7 @@ excess_modules m size earlier path few over room is =
       fit = record { modules = omega arith; bytes = omega arith };
       over = λ fits. absurd (omega (arith, fits.modules, length-append earlier (path ∷ [])));
       is = (λ i. refusal.TooMany (modules i + 1) (all i))
-          ∙ ap (refusal.TooMany (length earlier + 1)) (sym (add-zero (total_bytes m earlier)) ∙ ap (λ b. total_bytes m earlier + cond b (length (bytes_at m path)) 0) (sym (not_below (length earlier) (omega arith))));
+          ∙ ap (refusal.TooMany (length earlier + 1)) (sym (add-zero (total_bytes m earlier)) ∙ ap (λ b. total_bytes m earlier + cond b (length (text_at m path)) 0) (sym (not_below (length earlier) (omega arith))));
     }
   where
     not_below : (n : ℕ) → 16384 ≤ n → nat_lt n module_limit ≡ false
@@ -89,14 +89,13 @@ pub excess_in : (m : Files) (start size : Size) (sources : List Source) (round d
 excess_in m start size sources round done path behind owed taken parts excess earlier is =
     record { front = done; path = path; behind = behind; parts = parts; excess = excess (earlier ++ done) (taken.sizes earlier is) }
 
--- the stop for a file with more bytes than there is room for
-pub excess_stop : (size : Size) (path bytes : List ℕ) (files : Option Files) (before now vec_len n : ℕ) (stop : Stop) → vec_len ≡ length bytes → n ≡ vec_len
-    → size.modules + 1 ≤ 16384 → size.bytes ≤ 67108864 → 67108864 < size.bytes + n → IfSome files (λ m. bytes ≡ bytes_at m path)
+-- the stop for a text with more bytes than there is room for
+pub excess_stop : (size : Size) (path text : List ℕ) (files : Option Files) (before now n : ℕ) (stop : Stop) → n ≡ length text
+    → size.modules + 1 ≤ 16384 → size.bytes ≤ 67108864 → 67108864 < size.bytes + n → IfSome files (λ m. text ≡ text_at m path)
     → Refuses (refusal.TooMany (size.modules + 1) (size.bytes + n)) stop
     → HasStopCause (λ m owed. (earlier : List (List ℕ)) → size ≡ size_of m earlier → IsExcess m earlier path owed) files before now stop
-excess_stop size path bytes files before now vec_len n stop ok len few room over read is =
-    let long : n ≡ length bytes = len ∙ ok in
+excess_stop size path text files before now n stop long few room over read is =
     let P : Files → Refusal → Type 0 = λ m owed. (earlier : List (List ℕ)) → size ≡ size_of m earlier → IsExcess m earlier path owed in
     refused_stop P (refusal.TooMany (size.modules + 1) (size.bytes + n)) files before now stop is
     (told files read (λ m r earlier of. subst (λ k. IsExcess m earlier path (refusal.TooMany (size.modules + 1) (size.bytes + k))) (sym long)
-    (excess_bytes m size earlier path bytes few room (omega (arith, over, long)) r of)))
+    (excess_bytes m size earlier path text few room (omega (arith, over, long)) r of)))

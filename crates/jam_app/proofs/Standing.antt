@@ -9,12 +9,13 @@ use Rattle.node_resolve.specs.declared.target.Target.TheVariants as target
 use Rattle.node_resolve.specs.Targets.{target_of}
 use Rattle.composer.proofs.Members.{from_flat_map, from_map, into_flat_map, into_map, none}
 use Rattle.js_tree.specs.declared.tree.Tree.{Tree}
+use Rattle.js_tree.specs.Spells.{Spells}
 use Rattle.jam_app.specs.declared.loading.loaded.Led.{Led}
 use Rattle.jam_app.specs.declared.loading.loaded.Loaded.{Loaded}
 use Rattle.jam_app.specs.declared.loading.source.Source.{Source}
 use Rattle.jam_app.specs.Loading.{IsKept}
 use Rattle.jam_app.specs.Reading.{file_at, file_of, led_from, source_of}
-use Rattle.jam_app.specs.Rounds.{Ascend, IsNextRound, IsRequiredAmong, IsTreeOf, NoneBad, bytes_at}
+use Rattle.jam_app.specs.Rounds.{Ascend, IsNextRound, IsRequiredAmong, IsTreeOf, NoneBad, text_at}
 use Rattle.jam_app.specs.Texts.{IsBad}
 use Rattle.jam_app.proofs.Keeping.{path_of}
 use Rattle.jam_app.proofs.TreeLemmas.{not_bad, one_tree, tree_is}
@@ -22,7 +23,7 @@ use Rattle.jam_app.proofs.TreeLemmas.{not_bad, one_tree, tree_is}
 -- the modules of a round, in order: each is the one of the file at its path
 pub record AreOf (m : Files) (modules : List Loaded) (round : List (List ℕ)) : Type 0 where
   pub paths : map path_of modules ≡ round
-  pub bytes : All (λ l. l.bytes.items ≡ bytes_at m l.path) modules
+  pub texts : All (λ l. l.text ≡ text_at m l.path) modules
 
 same_parts : {X : Type 0} (x y : X) (xs ys : List X) → x ∷ xs ≡ y ∷ ys → (x ≡ y) × (xs ≡ ys)
 same_parts x y xs ys e = (cc, cc)
@@ -30,35 +31,35 @@ same_parts x y xs ys e = (cc, cc)
 no_parts : {X : Type 0} (x : X) (xs : List X) → [] ≡ x ∷ xs → ⊥
 no_parts x xs e = cc
 
-pub whole_files : (m : Files) (sources : List Source) (round : List (List ℕ)) → map file_of sources ≡ map (file_at m) round → (map (λ s. s.path) sources ≡ round) × All (λ s. s.bytes.items ≡ bytes_at m s.path) sources
-whole_files m [] [] e = (refl, All-nil (λ s. s.bytes.items ≡ bytes_at m s.path))
+pub whole_files : (m : Files) (sources : List Source) (round : List (List ℕ)) → map file_of sources ≡ map (file_at m) round → (map (λ s. s.path) sources ≡ round) × All (λ s. s.text ≡ text_at m s.path) sources
+whole_files m [] [] e = (refl, All-nil (λ s. s.text ≡ text_at m s.path))
 whole_files m [] (y ∷ ys) e = absurd (no_parts (file_at m y) (map (file_at m) ys) e)
 whole_files m (x ∷ xs) [] e = absurd (no_parts (file_of x) (map file_of xs) (sym e))
 whole_files m (x ∷ xs) (y ∷ ys) e =
     let parts = same_parts (file_of x) (file_at m y) (map file_of xs) (map (file_at m) ys) e in
     let more = whole_files m xs ys parts.1 in
     let path : x.path ≡ y = ap (λ (p : List ℕ × List ℕ). p.0) parts.0 in
-    let bytes : x.bytes.items ≡ bytes_at m x.path = ap (λ (p : List ℕ × List ℕ). p.1) parts.0 ∙ ap (bytes_at m) (sym path) in
-    ((λ i. path i ∷ more.0 i), All-cons (λ (s : Source). s.bytes.items ≡ bytes_at m s.path) x xs bytes more.1)
+    let text : x.text ≡ text_at m x.path = ap (λ (p : List ℕ × List ℕ). p.1) parts.0 ∙ ap (text_at m) (sym path) in
+    ((λ i. path i ∷ more.0 i), All-cons (λ (s : Source). s.text ≡ text_at m s.path) x xs text more.1)
 
 pub are_of : (m : Files) (modules : List Loaded) (sources : List Source) (round : List (List ℕ)) → map source_of modules ≡ sources → map file_of sources ≡ map (file_at m) round → AreOf m modules round
 are_of m modules sources round are files =
     let parts = whole_files m (map source_of modules) round (ap (map file_of) are ∙ files) in
-    record { paths = sym (map_map modules) ∙ parts.0; bytes = from_map_all modules parts.1 }
+    record { paths = sym (map_map modules) ∙ parts.0; texts = from_map_all modules parts.1 }
   where
     map_map : (ls : List Loaded) → map (λ (s : Source). s.path) (map source_of ls) ≡ map path_of ls
     map_map [] = refl
     map_map (l ∷ ls) = ap (λ ps. l.path ∷ ps) (map_map ls)
 
-    from_map_all : (ls : List Loaded) → All (λ (s : Source). s.bytes.items ≡ bytes_at m s.path) (map source_of ls) → All (λ (l : Loaded). l.bytes.items ≡ bytes_at m l.path) ls
-    from_map_all [] h = All-nil (λ (l : Loaded). l.bytes.items ≡ bytes_at m l.path)
-    from_map_all (l ∷ ls) h = All-cons (λ (l : Loaded). l.bytes.items ≡ bytes_at m l.path) l ls
-        (All-head (λ (s : Source). s.bytes.items ≡ bytes_at m s.path) (source_of l) (map source_of ls) h)
-        (from_map_all ls (All-tail (λ (s : Source). s.bytes.items ≡ bytes_at m s.path) (source_of l) (map source_of ls) h))
+    from_map_all : (ls : List Loaded) → All (λ (s : Source). s.text ≡ text_at m s.path) (map source_of ls) → All (λ (l : Loaded). l.text ≡ text_at m l.path) ls
+    from_map_all [] h = All-nil (λ (l : Loaded). l.text ≡ text_at m l.path)
+    from_map_all (l ∷ ls) h = All-cons (λ (l : Loaded). l.text ≡ text_at m l.path) l ls
+        (All-head (λ (s : Source). s.text ≡ text_at m s.path) (source_of l) (map source_of ls) h)
+        (from_map_all ls (All-tail (λ (s : Source). s.text ≡ text_at m s.path) (source_of l) (map source_of ls) h))
 
 module _ (m : Files) (skip : Bool) (modules : List Loaded) (round paths : List (List ℕ)) (of : AreOf m modules round) (read : All (IsKept skip m) modules) (paths_are : paths ≡ flat_map led_from modules) where
-  bytes_here : (l : Loaded) → Contains modules l → l.bytes.items ≡ bytes_at m l.path
-  bytes_here l h = All-contains (λ (l : Loaded). l.bytes.items ≡ bytes_at m l.path) modules l of.bytes h
+  text_here : (l : Loaded) → Contains modules l → l.text ≡ text_at m l.path
+  text_here l h = All-contains (λ (l : Loaded). l.text ≡ text_at m l.path) modules l of.texts h
 
   read_here : (l : Loaded) → Contains modules l → IsKept skip m l
   read_here l h = All-contains (IsKept skip m) modules l read h
@@ -68,13 +69,13 @@ module _ (m : Files) (skip : Bool) (modules : List Loaded) (round paths : List (
 
   -- no module of the round is bad, where such modules aren't skipped
   pub round_none_bad : skip ≡ false → NoneBad m round
-  round_none_bad unskipped = subst (NoneBad m) of.paths (All-map (λ (p : List ℕ). IsBad (bytes_at m p) → ⊥) path_of modules (both modules of.bytes read))
+  round_none_bad unskipped = subst (NoneBad m) of.paths (All-map (λ (p : List ℕ). IsBad (text_at m p) → ⊥) path_of modules (both modules of.texts read))
     where
-      both : (ls : List Loaded) → All (λ (l : Loaded). l.bytes.items ≡ bytes_at m l.path) ls → All (IsKept skip m) ls → All (λ (l : Loaded). IsBad (bytes_at m l.path) → ⊥) ls
-      both [] b r = All-nil (λ (l : Loaded). IsBad (bytes_at m l.path) → ⊥)
-      both (l ∷ ls) b r = All-cons (λ (l : Loaded). IsBad (bytes_at m l.path) → ⊥) l ls
-          (λ h. not_bad skip l.bytes.items l.tree l.skipped (All-head (IsKept skip m) l ls r).tree unskipped (subst IsBad (sym (All-head (λ (l : Loaded). l.bytes.items ≡ bytes_at m l.path) l ls b)) h))
-          (both ls (All-tail (λ (l : Loaded). l.bytes.items ≡ bytes_at m l.path) l ls b) (All-tail (IsKept skip m) l ls r))
+      both : (ls : List Loaded) → All (λ (l : Loaded). l.text ≡ text_at m l.path) ls → All (IsKept skip m) ls → All (λ (l : Loaded). IsBad (text_at m l.path) → ⊥) ls
+      both [] b r = All-nil (λ (l : Loaded). IsBad (text_at m l.path) → ⊥)
+      both (l ∷ ls) b r = All-cons (λ (l : Loaded). IsBad (text_at m l.path) → ⊥) l ls
+          (λ h. not_bad skip l.text l.tree l.skipped (All-head (IsKept skip m) l ls r).tree unskipped (subst IsBad (sym (All-head (λ (l : Loaded). l.text ≡ text_at m l.path) l ls b)) h))
+          (both ls (All-tail (λ (l : Loaded). l.text ≡ text_at m l.path) l ls b) (All-tail (IsKept skip m) l ls r))
 
   -- where a require leads is required
   leads_required : (path : List ℕ) → Contains paths path → IsRequiredAmong m round path
@@ -87,7 +88,7 @@ module _ (m : Files) (skip : Bool) (modules : List Loaded) (round paths : List (
         in_round l found.1,
         record {
           tree = l.tree;
-          tree_is = subst (λ (bs : List ℕ). IsTreeOf bs l.tree) (bytes_here l found.1) (tree_is skip l.bytes.items l.tree l.skipped (read_here l found.1).tree);
+          tree_is = subst (λ (text : List ℕ). IsTreeOf text l.tree) (text_here l found.1) (tree_is skip l.text l.tree l.skipped (read_here l found.1).tree);
           require = leads.require;
           here = leads.here;
           target_is = leads.target_is ∙ ap (λ (p : List ℕ). target.Module p) led.2;
@@ -99,8 +100,8 @@ module _ (m : Files) (skip : Bool) (modules : List Loaded) (round paths : List (
   required_leads path (from, from_here, required) =
       let found = from_map path_of modules from (subst (λ (ps : List (List ℕ)). Contains ps from) (sym of.paths) from_here) in
       let l = found.0 in
-      let is_tree : IsTreeOf l.bytes.items required.tree = subst (λ (bs : List ℕ). IsTreeOf bs required.tree) (ap (bytes_at m) (sym found.2) ∙ sym (bytes_here l found.1)) required.tree_is in
-      let same = one_tree skip l.bytes.items l.tree l.skipped required.tree (read_here l found.1).tree is_tree in
+      let is_tree : IsTreeOf l.text required.tree = subst (λ (text : List ℕ). IsTreeOf text required.tree) (ap (text_at m) (sym found.2) ∙ sym (text_here l found.1)) required.tree_is in
+      let same = one_tree skip l.text l.tree l.skipped required.tree (read_here l found.1).tree is_tree in
       let led : Led = record { offset = required.require.offset; path = path } in
       let in_targets : Contains l.targets.items led = ((read_here l found.1).targets led).1 (record {
         require = required.require;

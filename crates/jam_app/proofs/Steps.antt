@@ -15,8 +15,8 @@ use Rattle.jam_app.specs.declared.loading.source.Source.{Source}
 use Rattle.jam_app.specs.Reading as reading
 use Rattle.jam_app.specs.Reading.{HasBad, HasExcess, IsRefusedFor, file_at, file_of, led_from, size_of, source_of}
 use Rattle.jam_app.specs.BetweenRounds.{IsHeld, Stands, found_at}
-use Rattle.jam_app.specs.Refusals.{IsFirstBad, IsLoadRefusal, not_in_profile, too_large, too_many}
-use Rattle.jam_app.specs.Rounds.{Ascend, Fits, IsRound, NoneBad, bytes_at, total_bytes}
+use Rattle.jam_app.specs.Refusals.{IsFirstBad, IsLoadRefusal, construct, not_in_profile, too_large, too_many}
+use Rattle.jam_app.specs.Rounds.{Ascend, Fits, IsRound, NoneBad, text_at, total_bytes}
 use Rattle.jam_app.specs.Entries.{Start}
 use Rattle.jam_app.specs.Loading.{IsKept}
 use Rattle.jam_app.specs.Texts.{IsBad}
@@ -49,12 +49,12 @@ stands_next m start old new sources modules round paths next stands files are re
       number = suc stands.number;
       before = stands.before ++ round;
       is_round = (stands.before, round, stands.is_round, refl, next_round m start.skip modules round paths of read paths_are stands.before next (found_at new.modules) loaded sorted here);
-      none_bad = λ unskipped. All-append (λ path. IsBad (bytes_at m path) → ⊥) stands.before round (stands.none_bad unskipped) (round_none_bad m start.skip modules round paths of read paths_are unskipped);
+      none_bad = λ unskipped. All-append (λ path. IsBad (text_at m path) → ⊥) stands.before round (stands.none_bad unskipped) (round_none_bad m start.skip modules round paths of read paths_are unskipped);
       size = sizes stands.before stands.size;
       here = loaded;
       held = λ path l is. ⊎_elim (λ g. stands.held path l g) (λ g. record {
         at = g.0;
-        bytes = All-contains (λ (l : Loaded). l.bytes.items ≡ bytes_at m l.path) modules l of.bytes g.1;
+        text = All-contains (λ (l : Loaded). l.text ≡ text_at m l.path) modules l of.texts g.1;
         kept = All-contains (IsKept start.skip m) modules l read g.1;
       }) (kept.which path l is);
     }
@@ -74,15 +74,17 @@ refuses_excess m start old round owed stands has =
       over = h.excess.over;
     }))
 
-large_bad : (bytes : List ℕ) → limit < length bytes → IsBad bytes
-large_bad bytes over tree s = absurd (omega (arith, over, s.spells.fits))
+large_bad : (text : List ℕ) → limit < length text → IsBad text
+large_bad text over tree s = absurd (omega (arith, over, s.fits))
 
-is_bad : (path bytes : List ℕ) (owed : Refusal) → IsRefusedFor path bytes owed → IsBad bytes
-is_bad path bytes owed (reading.too_large over) = large_bad bytes over
-is_bad path bytes owed (reading.not_in_profile at none within refused) = none
+is_bad : (path text : List ℕ) (owed : Refusal) → IsRefusedFor path text owed → IsBad text
+is_bad path text owed (reading.too_large over) = large_bad text over
+is_bad path text owed (reading.construct at what none within refused) = none
+is_bad path text owed (reading.not_in_profile at none within refused) = none
 
-refuses_for : (m : Files) (start path : List ℕ) (owed : Refusal) → IsFirstBad start m path → IsRefusedFor path (bytes_at m path) owed → IsLoadRefusal start m owed
+refuses_for : (m : Files) (start : Start) (path : List ℕ) (owed : Refusal) → IsFirstBad start m path → IsRefusedFor path (text_at m path) owed → IsLoadRefusal start m owed
 refuses_for m start path owed first (reading.too_large over) = too_large path first over
+refuses_for m start path owed first (reading.construct at what none within refused) = construct path at what first within refused
 refuses_for m start path owed first (reading.not_in_profile at none within refused) = not_in_profile path at first within refused
 
 -- the first bad module of a round is refused
@@ -95,9 +97,9 @@ refuses_bad m start old new sources round owed stands files sizes few room has =
     let front : List (List ℕ) = map (λ (s : Source). s.path) has.front in
     let behind : List (List ℕ) = map (λ (s : Source). s.path) has.behind in
     let parts : round ≡ front ++ source.path ∷ behind = sym whole.0 ∙ ap (map (λ (s : Source). s.path)) has.parts ∙ map-append (λ (s : Source). s.path) has.front (source ∷ has.behind) in
-    let bytes : All (λ (s : Source). s.bytes.items ≡ bytes_at m s.path) (has.front ++ source ∷ has.behind) = subst (All (λ (s : Source). s.bytes.items ≡ bytes_at m s.path)) has.parts whole.1 in
-    let here_bytes : source.bytes.items ≡ bytes_at m source.path = All-contains (λ (s : Source). s.bytes.items ≡ bytes_at m s.path) (has.front ++ source ∷ has.behind) source bytes (Contains-append_right has.front (source ∷ has.behind) source (here source has.behind)) in
-    let refused : IsRefusedFor source.path (bytes_at m source.path) owed = subst (λ bs. IsRefusedFor source.path bs owed) here_bytes has.refused in
+    let texts : All (λ (s : Source). s.text ≡ text_at m s.path) (has.front ++ source ∷ has.behind) = subst (All (λ (s : Source). s.text ≡ text_at m s.path)) has.parts whole.1 in
+    let here_text : source.text ≡ text_at m source.path = All-contains (λ (s : Source). s.text ≡ text_at m s.path) (has.front ++ source ∷ has.behind) source texts (Contains-append_right has.front (source ∷ has.behind) source (here source has.behind)) in
+    let refused : IsRefusedFor source.path (text_at m source.path) owed = subst (λ text. IsRefusedFor source.path text owed) here_text has.refused in
     let all : stands.before ++ round ≡ stands.before ++ front ++ source.path ∷ behind = ap (λ r. stands.before ++ r) parts ∙ sym (append_assoc stands.before front (source.path ∷ behind)) in
     refuses_for m start source.path owed (record {
       unskipped = has.unskipped;
@@ -106,12 +108,12 @@ refuses_bad m start old new sources round owed stands files sizes few room has =
       behind = behind;
       reached = record { entry = stands.entry; found = stands.found; number = stands.number; is_round = subst (λ r. IsRound m stands.entry stands.number stands.before r) parts stands.is_round; none_bad = stands.none_bad };
       fits = subst (Fits m) all (size_fits m new (stands.before ++ round) (sizes stands.before stands.size) few room);
-      none_bad = front_fine has.front (source ∷ has.behind) bytes has.none_bad;
-      bad = is_bad source.path (bytes_at m source.path) owed refused;
+      none_bad = front_fine has.front (source ∷ has.behind) texts has.none_bad;
+      bad = is_bad source.path (text_at m source.path) owed refused;
     }) refused
   where
-    front_fine : (ss rest : List Source) → All (λ (s : Source). s.bytes.items ≡ bytes_at m s.path) (ss ++ rest) → All (λ (s : Source). IsBad s.bytes.items → ⊥) ss → NoneBad m (map (λ (s : Source). s.path) ss)
-    front_fine [] rest b n = All-nil (λ (p : List ℕ). IsBad (bytes_at m p) → ⊥)
-    front_fine (s ∷ ss) rest b n = All-cons (λ (p : List ℕ). IsBad (bytes_at m p) → ⊥) s.path (map (λ (s : Source). s.path) ss)
-        (λ h. All-head (λ (s : Source). IsBad s.bytes.items → ⊥) s ss n (subst IsBad (sym (All-head (λ (s : Source). s.bytes.items ≡ bytes_at m s.path) s (ss ++ rest) b)) h))
-        (front_fine ss rest (All-tail (λ (s : Source). s.bytes.items ≡ bytes_at m s.path) s (ss ++ rest) b) (All-tail (λ (s : Source). IsBad s.bytes.items → ⊥) s ss n))
+    front_fine : (ss rest : List Source) → All (λ (s : Source). s.text ≡ text_at m s.path) (ss ++ rest) → All (λ (s : Source). IsBad s.text → ⊥) ss → NoneBad m (map (λ (s : Source). s.path) ss)
+    front_fine [] rest b n = All-nil (λ (p : List ℕ). IsBad (text_at m p) → ⊥)
+    front_fine (s ∷ ss) rest b n = All-cons (λ (p : List ℕ). IsBad (text_at m p) → ⊥) s.path (map (λ (s : Source). s.path) ss)
+        (λ h. All-head (λ (s : Source). IsBad s.text → ⊥) s ss n (subst IsBad (sym (All-head (λ (s : Source). s.text ≡ text_at m s.path) s (ss ++ rest) b)) h))
+        (front_fine ss rest (All-tail (λ (s : Source). s.text ≡ text_at m s.path) s (ss ++ rest) b) (All-tail (λ (s : Source). IsBad s.text → ⊥) s ss n))

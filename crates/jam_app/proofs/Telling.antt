@@ -12,7 +12,7 @@ use Rattle.lock_reader.specs.declared.fault.LockFault.TheVariants as lock_fault
 use Rattle.advisory_reader.specs.declared.fault.AdvisoryFault.{AdvisoryFault}
 use Rattle.advisory_reader.specs.declared.fault.AdvisoryFault.TheVariants as advisory_fault
 use Rattle.jam_app.specs.AuditFiles.{lock_name}
-use Rattle.jam_app.specs.Lines.{IsAdvisoryText, IsLockText, IsRefusalText, IsTold, TellsRefusal, TellsStatus, field_line, no_advisories, no_entry, no_lock, not_json_line, range_line, shape_line, version_line, not_in_profile_line, text_of, too_large_line, too_many_line, too_wide_line}
+use Rattle.jam_app.specs.Lines.{IsAdvisoryText, IsLockText, IsRefusalText, IsTold, TellsRefusal, TellsStatus, construct_line, field_line, no_advisories, no_entry, no_lock, not_json_line, range_line, shape_line, version_line, not_in_profile_line, text_of, too_large_line, too_many_line, too_wide_line}
 use Rattle.jam_app.specs.Written.{TakesFront}
 
 nothing_taken : (n : ℕ) → take n (let none : List ℕ = [] in none) ≡ []
@@ -47,6 +47,8 @@ refusal_text (refusal.Advisory fault) = advisory_said fault
 refusal_text refusal.NoEntry = (no_entry, refl)
 refusal_text (refusal.TooMany modules bytes) = (too_many_line modules bytes, refl)
 refusal_text (refusal.TooLarge path n) = (too_large_line path n, refl)
+refusal_text (refusal.Construct path at what) =
+    let place : Place = record { offset = at; line = 1; column = 1 } in (construct_line path 1 1 what, (place, refl, refl))
 refusal_text (refusal.NotInProfile path at) =
     let place : Place = record { offset = at; line = 1; column = 1 } in (not_in_profile_line path 1 1, (place, refl, refl))
 refusal_text (refusal.TooWide size) = (too_wide_line size, refl)

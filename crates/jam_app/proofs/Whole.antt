@@ -22,8 +22,8 @@ use Rattle.jam_app.specs.Entries.{Start, entry_path}
 use Rattle.jam_app.specs.Loading.{IsKept, IsWhole, module_of}
 use Rattle.jam_app.specs.Loading.{IsAnalysed}
 use Rattle.jam_app.specs.BetweenRounds.{HoldsAnalysed, Stands, found_at}
-use Rattle.jam_app.specs.Refusals.{IsFirstBad, IsOneTooMany, IsReached, IsLoadRefusal, no_entry, not_in_profile, too_large, too_many}
-use Rattle.jam_app.specs.Rounds.{Ascend, Fits, IsModuleOf, IsRound, LoadedModule, bytes_at, total_bytes}
+use Rattle.jam_app.specs.Refusals.{IsFirstBad, IsOneTooMany, IsReached, IsLoadRefusal, construct, no_entry, not_in_profile, too_large, too_many}
+use Rattle.jam_app.specs.Rounds.{Ascend, Fits, IsModuleOf, IsRound, LoadedModule, text_at, total_bytes}
 use Rattle.jam_app.specs.Texts.{IsBad}
 use Rattle.jam_app.proofs.Keeping.{path_of}
 use Rattle.jam_app.proofs.TreeLemmas.{module_is}
@@ -40,7 +40,7 @@ stands_first m start entry progress found empty size = record {
   number = 0;
   before = [];
   is_round = (refl, refl);
-  none_bad = λ unskipped. All-nil (λ (p : List ℕ). IsBad (bytes_at m p) → ⊥);
+  none_bad = λ unskipped. All-nil (λ (p : List ℕ). IsBad (text_at m p) → ⊥);
   size = size;
   here = λ path. (λ h. absurd (true≢false (sym (sym (ap (is_held path) empty) ∙ h))), λ h. absurd (none path h));
   held = λ path l is. absurd (none-some l (sym (ap (held_in path) empty) ∙ is));
@@ -113,7 +113,7 @@ module _ (m : Files) (start : Start) (progress : Progress) (stands : Stands star
       let all = reached_within first.before first.front path first.behind first.reached in
       let inside : Contains stands.before path = subst (λ (ps : List (List ℕ)). Contains ps path) (sym all.1)
       (Contains-append_left (first.before ++ (first.front ++ path ∷ first.behind)) all.0 path (Contains-append_right first.before (first.front ++ path ∷ first.behind) path (Contains-append_right first.front (path ∷ first.behind) path (here path first.behind)))) in
-      All-contains (λ (p : List ℕ). IsBad (bytes_at m p) → ⊥) stands.before path (stands.none_bad first.unskipped) inside first.bad
+      All-contains (λ (p : List ℕ). IsBad (text_at m p) → ⊥) stands.before path (stands.none_bad first.unskipped) inside first.bad
 
   no_excess : (earlier : List (List ℕ)) (path : List ℕ) → Fits m stands.before → IsOneTooMany start m earlier path → ⊥
   no_excess earlier path fits one =
@@ -128,15 +128,17 @@ module _ (m : Files) (start : Start) (progress : Progress) (stands : Stands star
   none_owed fits owed (no_entry no_path) = none-some stands.entry (sym no_path ∙ stands.found)
   none_owed fits owed (too_many earlier path one) = no_excess earlier path fits one
   none_owed fits owed (too_large path first over) = no_first_bad path first
+  none_owed fits owed (construct path at what first within refused) = no_first_bad path first
+  none_owed fits owed (construct path at what first within refused) = no_first_bad path first
   none_owed fits owed (not_in_profile path at first within refused) = no_first_bad path first
 
-  held_all : (es : List (List ℕ × Loaded)) → All (λ e. found_at progress.modules e.0 ≡ Some e.1) es → (map path_of (values_of es) ≡ keys_of es) × All (λ l. (l.bytes.items ≡ bytes_at m l.path) × IsKept start.skip m l) (values_of es)
-  held_all [] found = (refl, All-nil (λ (l : Loaded). (l.bytes.items ≡ bytes_at m l.path) × IsKept start.skip m l))
+  held_all : (es : List (List ℕ × Loaded)) → All (λ e. found_at progress.modules e.0 ≡ Some e.1) es → (map path_of (values_of es) ≡ keys_of es) × All (λ l. (l.text ≡ text_at m l.path) × IsKept start.skip m l) (values_of es)
+  held_all [] found = (refl, All-nil (λ (l : Loaded). (l.text ≡ text_at m l.path) × IsKept start.skip m l))
   held_all (e ∷ es) found =
       let P : List ℕ × Loaded → Type 0 = λ e. found_at progress.modules e.0 ≡ Some e.1 in
       let held = stands.held e.0 e.1 (All-head P e es found) in
       let more = held_all es (All-tail P e es found) in
-      ((λ i. held.at i ∷ more.0 i), All-cons (λ (l : Loaded). (l.bytes.items ≡ bytes_at m l.path) × IsKept start.skip m l) e.1 (values_of es) (held.bytes, held.kept) more.1)
+      ((λ i. held.at i ∷ more.0 i), All-cons (λ (l : Loaded). (l.text ≡ text_at m l.path) × IsKept start.skip m l) e.1 (values_of es) (held.text, held.kept) more.1)
 
   map_map : (ls : List Loaded) → map (λ (x : LoadedModule). x.path) (map module_of ls) ≡ map path_of ls
   map_map [] = refl
@@ -157,10 +159,10 @@ module _ (m : Files) (start : Start) (progress : Progress) (stands : Stands star
             λ h. before_loaded m stands.entry stands.number stands.before [] stands.is_round path ((stands.here path).0 ((btree_map_contains_key_iff nat_list_cmp_total exact_bytes progress.modules path).1 (subst (λ (ps : List (List ℕ)). Contains ps path) paths h))),
             λ h. subst (λ (ps : List (List ℕ)). Contains ps path) (sym paths) ((btree_map_contains_key_iff nat_list_cmp_total exact_bytes progress.modules path).0 ((stands.here path).1 (loaded_before m stands.entry stands.number stands.before stands.is_round path h))),
           );
-          modules_are = All-map (IsModuleOf m) module_of values (All-weaker (λ (l : Loaded). (l.bytes.items ≡ bytes_at m l.path) × IsKept start.skip m l) (λ l. IsModuleOf m (module_of l))
+          modules_are = All-map (IsModuleOf m) module_of values (All-weaker (λ (l : Loaded). (l.text ≡ text_at m l.path) × IsKept start.skip m l) (λ l. IsModuleOf m (module_of l))
               (λ l h. module_is m start.skip l h.0 h.1) values all.1);
         };
-        kept = All-weaker (λ (l : Loaded). (l.bytes.items ≡ bytes_at m l.path) × IsKept start.skip m l) (IsKept start.skip m) (λ l h. h.1) values all.1;
+        kept = All-weaker (λ (l : Loaded). (l.text ≡ text_at m l.path) × IsKept start.skip m l) (IsKept start.skip m) (λ l h. h.1) values all.1;
         unrefused = none_owed (size_fits m progress.size stands.before stands.size few room);
       })
 

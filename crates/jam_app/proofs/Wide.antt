@@ -21,7 +21,7 @@ use Rattle.jam_app.specs.Entries.{Start}
 use Rattle.jam_app.specs.Graphs.{constraints_all}
 use Rattle.jam_app.specs.Loading.{IsAnalysed, IsKept, IsWhole, loaded_size, module_of, part_of}
 use Rattle.jam_app.specs.Refusals.{IsTooWide}
-use Rattle.jam_app.specs.Rounds.{IsApplication, IsModuleOf, IsTreeOf, LoadedModule, bytes_at}
+use Rattle.jam_app.specs.Rounds.{IsApplication, IsModuleOf, IsTreeOf, LoadedModule, text_at}
 use Rattle.jam_app.specs.Texts.{IsBad}
 use Rattle.jam_app.specs.Stops.{CountsFaults, KeepsCount, Refuses, StopsWide}
 use Rattle.jam_app.proofs.TreeLemmas.{one_tree}
@@ -66,16 +66,16 @@ same_bool false false f g = refl
 -- an application has one list of modules, where each text has one tree
 module _ (skip : Bool) (files : Files) where
   one_module : (l : Loaded) (m : LoadedModule) → m.path ≡ l.path → IsKept skip files l → IsModuleOf files (module_of l) → IsModuleOf files m → m ≡ module_of l
-  one_module l m path kept here there = λ i. record { path = path i; bytes = bytes i; tree = tree i; skipped = skipped i }
+  one_module l m path kept here there = λ i. record { path = path i; text = text i; tree = tree i; skipped = skipped i }
     where
-      bytes : m.bytes ≡ l.bytes.items
-      bytes = there.bytes ∙ ap (bytes_at files) path ∙ sym here.bytes
+      text : m.text ≡ l.text
+      text = there.text ∙ ap (text_at files) path ∙ sym here.text
 
       tree : m.tree ≡ l.tree
-      tree = one_tree skip l.bytes.items l.tree l.skipped m.tree kept.tree (subst (λ bs. IsTreeOf bs m.tree) bytes there.tree)
+      tree = one_tree skip l.text l.tree l.skipped m.tree kept.tree (subst (λ t. IsTreeOf t m.tree) text there.tree)
 
       skipped : m.skipped ≡ l.skipped
-      skipped = same_bool m.skipped l.skipped (λ t. here.skipped.1 (subst IsBad bytes (there.skipped.0 t))) (λ t. there.skipped.1 (subst IsBad (sym bytes) (here.skipped.0 t)))
+      skipped = same_bool m.skipped l.skipped (λ t. here.skipped.1 (subst IsBad text (there.skipped.0 t))) (λ t. there.skipped.1 (subst IsBad (sym text) (here.skipped.0 t)))
 
   same_modules : (ls : List Loaded) (ms : List LoadedModule) → map (λ (m : LoadedModule). m.path) ms ≡ map (λ (m : LoadedModule). m.path) (map module_of ls)
       → All (IsKept skip files) ls → All (IsModuleOf files) (map module_of ls) → All (IsModuleOf files) ms → ms ≡ map module_of ls

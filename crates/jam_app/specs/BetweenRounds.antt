@@ -1,7 +1,7 @@
 -- What stands from one round to the next.
 use Rattle.std.specs.Prelude.{◌≡◌, ℕ, Bool, false, List, Contains, Some, ◌↔◌, Option, IsSome}
 use Rattle.jam_app.specs.declared.loading.loaded.Loaded.{Loaded}
-use Rattle.jam_app.specs.Rounds.{bytes_at, IsRound, NoneBad}
+use Rattle.jam_app.specs.Rounds.{text_at, IsRound, NoneBad}
 use Rattle.std.specs.BTreeMap as tree
 use Rattle.std.specs.Cmp.Lexicographic.{slice_cmp}
 use Rattle.std.specs.Ordering.{nat_cmp}
@@ -22,7 +22,7 @@ HoldsAnalysed modules = (path : List ℕ) (l : Loaded) → found_at modules path
 -- the module under the path is the one of the file there
 pub record IsHeld (skip : Bool) (files : Files) (path : List ℕ) (l : Loaded) : Type 0 where
   pub at : l.path ≡ path
-  pub bytes : l.bytes.items ≡ bytes_at files l.path
+  pub text : l.text ≡ text_at files l.path
   pub kept : IsKept skip files l
 
 -- all rounds before this one are loaded, within the limits, and without a bad module where these aren't skipped

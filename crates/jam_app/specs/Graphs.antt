@@ -1,5 +1,5 @@
 -- The call graph that is owed.
-use Rattle.std.specs.Prelude.{◌≡◌, ◌&&◌, ℕ, List, [], length, map, Option, Some, None, slice_get, nat_le, if◌then◌else◌}
+use Rattle.std.specs.Prelude.{◌≡◌, ℕ, List, [], length, map, Option, Some, None, slice_get, nat_le, if◌then◌else◌}
 use Rattle.jam_base.specs.Files.{Files}
 use Rattle.jam_base.specs.Place.{place_at}
 use Rattle.jam_base.specs.declared.edge.Edge.{Edge}
@@ -16,22 +16,21 @@ use Rattle.report_text.specs.Graph.{graph_text_of}
 use Rattle.js_tree.specs.Spells.{limit}
 use Rattle.jam_app.specs.Entries.{entry_path}
 use Rattle.jam_app.specs.Rounds.{LoadedModule, IsApplication, AreLinks}
-use Rattle.jam_app.specs.Texts.{is_ascii}
 
 -- what is printed of a function that no edge can name
 abbrev pub nowhere : Shown
 nowhere = record { path = []; line = 1; column = 1; name = [] }
 
--- the text by which places in a file are told: its bytes, and none where they are no text
+-- the text by which places in a module are told: of one that is too large only its start is
 abbrev pub place_text : List ℕ → List ℕ
-place_text bytes = if nat_le (length bytes) limit && is_ascii bytes then bytes else []
+place_text text = if nat_le (length text) limit then text else []
 
 -- a function of a module with this path and text, as it is printed
 abbrev pub shown_at : List ℕ → List ℕ → FunctionInfo → Shown
 shown_at path text f = record { path = path; line = (place_at text f.start).line; column = (place_at text f.start).column; name = f.name }
 
 abbrev pub shown_in : LoadedModule → FunctionInfo → Shown
-shown_in m = shown_at m.path (place_text m.bytes)
+shown_in m = shown_at m.path (place_text m.text)
 
 -- the function with this number of a module, as it is printed
 abbrev pub shown_number : ℕ → LoadedModule → Shown
@@ -43,7 +42,7 @@ shown_function modules f = elim (slice_get modules f.module) [ None ↦ nowhere 
 
 -- a call of this function at an offset of a module, as it is printed
 abbrev pub shown_call : ℕ → Shown → LoadedModule → PathStep
-shown_call offset callee m = record { path = m.path; line = (place_at (place_text m.bytes) offset).line; column = (place_at (place_text m.bytes) offset).column; callee = callee }
+shown_call offset callee m = record { path = m.path; line = (place_at (place_text m.text) offset).line; column = (place_at (place_text m.text) offset).column; callee = callee }
 
 -- a call edge between functions of the modules, as it is printed
 abbrev pub shown_edge : List LoadedModule → Edge → PathStep

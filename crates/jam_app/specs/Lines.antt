@@ -3,11 +3,13 @@ use Rattle.std.specs.Prelude.{◌≡◌, ◌⊎◌, ℕ, List, [], ◌++◌, cod
 use Rattle.std.specs.Fmt.{decimal}
 use Rattle.js_tree.specs.Spells.{limit}
 use Rattle.jam_base.specs.declared.place.Place.{Place}
+use Rattle.js_parser.specs.Answers.{word_of}
+use Rattle.js_parser.specs.declared.fault.Construct.{Construct as AnyConstruct}
 use Rattle.report_text.specs.Escape.{escaped}
 use Rattle.jam_app.specs.declared.answers.line.Line.{Line}
 use Rattle.jam_app.specs.declared.answers.line.Line.TheVariants.{Nothing, Fixed, Made}
 use Rattle.jam_app.specs.declared.answers.refusal.Refusal.{Refusal}
-use Rattle.jam_app.specs.declared.answers.refusal.Refusal.TheVariants.{NoLock, Lock, NoAdvisories, Advisory, NoEntry, TooMany, TooLarge, NotInProfile, TooWide}
+use Rattle.jam_app.specs.declared.answers.refusal.Refusal.TheVariants.{NoLock, Lock, NoAdvisories, Advisory, NoEntry, TooMany, TooLarge, Construct, NotInProfile, TooWide}
 use Rattle.lock_reader.specs.declared.fault.LockFault.{LockFault}
 use Rattle.lock_reader.specs.declared.fault.LockFault.TheVariants as lock_fault
 use Rattle.advisory_reader.specs.declared.fault.AdvisoryFault.{AdvisoryFault}
@@ -46,6 +48,9 @@ too_large_line path n = too_large_text (escaped path) n
 
 abbrev pub place_text : List ℕ → ℕ → ℕ → List ℕ
 place_text path line column = escaped path ++ (codes ":" ++ (decimal line ++ (codes ":" ++ decimal column)))
+
+abbrev pub construct_line : List ℕ → ℕ → ℕ → AnyConstruct → List ℕ
+construct_line path line column what = codes "jam: " ++ (place_text path line column ++ (codes ": " ++ (word_of what ++ codes "\n")))
 
 abbrev pub not_in_profile_line : List ℕ → ℕ → ℕ → List ℕ
 not_in_profile_line path line column = codes "jam: " ++ (place_text path line column ++ codes ": not in the profile\n")
@@ -114,6 +119,7 @@ IsRefusalText (Advisory fault) text = IsAdvisoryText fault text
 IsRefusalText NoEntry text = text ≡ no_entry
 IsRefusalText (TooMany modules bytes) text = text ≡ too_many_line modules bytes
 IsRefusalText (TooLarge path n) text = text ≡ too_large_line path n
+IsRefusalText (Construct path at what) text = (place : Place) × (place.offset ≡ at) × (text ≡ construct_line path place.line place.column what)
 IsRefusalText (NotInProfile path at) text = (place : Place) × (place.offset ≡ at) × (text ≡ not_in_profile_line path place.line place.column)
 IsRefusalText (TooWide size) text = text ≡ too_wide_line size
 

@@ -27,7 +27,7 @@ use Rattle.jam_app.specs.Texts.{IsTheTree}
 
 -- the module
 abbrev pub module_of : Loaded → LoadedModule
-module_of l = record { path = l.path; bytes = l.bytes.items; tree = l.tree; skipped = l.skipped }
+module_of l = record { path = l.path; text = l.text; tree = l.tree; skipped = l.skipped }
 
 -- the summary folds the constraints of the tree, and keeps their flows
 pub record IsSummaryOf (tree : Tree) (s : ModuleSummary) : Type 0 where
@@ -75,7 +75,7 @@ missing_by files from require = missing_of require (target_of files from require
 
 -- what is kept of the module: the tree that is worked with, its summary, the targets of its requires that are modules, and its requires that lead nowhere
 pub record IsKept (skip : Bool) (files : Files) (l : Loaded) : Type 0 where
-  pub tree : IsTheTree skip l.bytes.items l.tree l.skipped
+  pub tree : IsTheTree skip l.text l.tree l.skipped
   pub summary : IsSummaryOf l.tree l.summary
   pub targets : (led : Led) → Contains l.targets.items led ↔ Leads files l led
   pub missing : l.missing.items ≡ filter_map (missing_by files l.path) (requires_of l.tree)

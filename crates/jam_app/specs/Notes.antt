@@ -66,7 +66,7 @@ missing_noted missing = record { offset = missing.offset; remark = remark.NotFou
 abbrev pub lock_noted : Bool → List Noted
 lock_noted owned = if owned then [] else record { offset = 0; remark = remark.NotInLockfile } ∷ []
 
--- a module that is skipped: its file is too large, or no tree spells its text
+-- a module that is skipped: its text is too large, or no tree spells its text
 abbrev pub skipped_for : ℕ → Remark
 skipped_for n = if nat_lt limit n then remark.TooLarge else remark.NotInProfile
 
@@ -81,7 +81,7 @@ is_owned entries path = list_any (λ e. owns e.location path) entries
 abbrev pub noted_of : Files → List LockEntry → LoadedModule → List Noted
 noted_of files entries m = ascending noted_order (
     lock_noted (is_owned entries m.path) ++ map own_noted (notes_of m.tree)
-    ++ map missing_noted (filter_map (missing_by files m.path) (requires_of m.tree)) ++ skip_noted m.skipped (length m.bytes))
+    ++ map missing_noted (filter_map (missing_by files m.path) (requires_of m.tree)) ++ skip_noted m.skipped (length m.text))
 
 -- ---- the notes
 
@@ -94,7 +94,7 @@ note_at path text noted = record {
 }
 
 abbrev pub module_notes : Files → List LockEntry → LoadedModule → List Note
-module_notes files entries m = map (note_at m.path (place_text m.bytes)) (noted_of files entries m)
+module_notes files entries m = map (note_at m.path (place_text m.text)) (noted_of files entries m)
 
 -- a note of the location of an installed package
 abbrev pub unversioned_note : List ℕ → Note
@@ -108,10 +108,10 @@ notes_owed files entries advisories modules =
 -- ---- the same of what is loaded
 
 abbrev pub all_noted : Bool → Loaded → List Noted
-all_noted owned l = lock_noted owned ++ map own_noted l.summary.lists.notes ++ map missing_noted l.missing.items ++ skip_noted l.skipped (length l.bytes.items)
+all_noted owned l = lock_noted owned ++ map own_noted l.summary.lists.notes ++ map missing_noted l.missing.items ++ skip_noted l.skipped (length l.text)
 
 abbrev pub loaded_notes : List LockEntry → Loaded → List Note
-loaded_notes entries l = map (note_at l.path (place_text l.bytes.items)) (ascending noted_order (all_noted (is_owned entries l.path) l))
+loaded_notes entries l = map (note_at l.path (place_text l.text)) (ascending noted_order (all_noted (is_owned entries l.path) l))
 
 abbrev pub all_notes : List LockEntry → List Advisory → List Loaded → List Note
 all_notes entries advisories loaded = flat_map (loaded_notes entries) loaded ++ map unversioned_note (alarms.unversioned advisories entries)

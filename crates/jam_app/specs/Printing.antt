@@ -29,7 +29,7 @@ pub record PrintedModule : Type 0 where
   pub functions : List Shown
 
 abbrev pub printed_of : LoadedModule → PrintedModule
-printed_of m = record { path = m.path; text = place_text m.bytes; functions = map (shown_in m) (functions_of m.tree) }
+printed_of m = record { path = m.path; text = place_text m.text; functions = map (shown_in m) (functions_of m.tree) }
 
 -- a function of printed modules
 abbrev pub function_among : List PrintedModule → FunctionRef → Shown

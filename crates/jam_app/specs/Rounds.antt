@@ -5,27 +5,33 @@ use Rattle.std.specs.Cmp.Lexicographic.{slice_cmp}
 use Rattle.std.specs.Ordering.{nat_cmp}
 use Rattle.std.specs.FinMap as finite
 use Rattle.jam_base.specs.Files.{Files}
+use Rattle.jam_base.specs.Source.{source_of}
+use Rattle.js_tree.specs.Spells.{Spells}
 use Rattle.js_tree.specs.declared.tree.Tree.{Tree}
 use Rattle.flow_rules.specs.declared.module.Require.{Require}
 use Rattle.flow_rules.specs.Flows.{requires_of}
 use Rattle.node_resolve.specs.declared.target.Target.TheVariants.{Module}
 use Rattle.node_resolve.specs.Targets.{target_of}
 use Rattle.composer.specs.declared.application.Link.{Link}
-use Rattle.jam_app.specs.Texts.{IsSpelled, IsBad, empty_tree}
+use Rattle.jam_app.specs.Texts.{IsBad, empty_tree}
 
--- the bytes of the file at a path
+-- the bytes of the file at a path, none where there is no file
 abbrev pub bytes_at : Files → List ℕ → List ℕ
 bytes_at files path = unwrap_or (finite.get files path) []
 
--- the tree of a module with these bytes: the one that spells its text, and the empty one where none does
-pub data IsTreeOf (bytes : List ℕ) (tree : Tree) : Type 0 where
-  spelled : IsSpelled bytes tree → IsTreeOf bytes tree
-  bad : IsBad bytes → tree ≡ empty_tree → IsTreeOf bytes tree
+-- the text that they are read as
+abbrev pub text_at : Files → List ℕ → List ℕ
+text_at files path = source_of (bytes_at files path)
+
+-- the tree of a module with this text: the one that spells it, and the empty one where none does
+pub data IsTreeOf (text : List ℕ) (tree : Tree) : Type 0 where
+  spelled : Spells text tree → IsTreeOf text tree
+  bad : IsBad text → tree ≡ empty_tree → IsTreeOf text tree
 
 -- a require of the module at a path has the module at the target as its target
 pub record IsRequired (files : Files) (path target : List ℕ) : Type 0 where
   pub tree : Tree
-  pub tree_is : IsTreeOf (bytes_at files path) tree
+  pub tree_is : IsTreeOf (text_at files path) tree
   pub require : Require
   pub here : Contains (requires_of tree) require
   pub target_is : target_of files path require.spec ≡ Module target
@@ -57,18 +63,18 @@ pub record IsLoaded (files : Files) (entry path : List ℕ) : Type 0 where
   pub is_round : IsRound files entry number before round
   pub here : Contains round path
 
--- a loaded module: its path, the bytes of its file, its tree, and whether it is skipped
+-- a loaded module: its path, the text of its file, its tree, and whether it is skipped
 pub record LoadedModule : Type 0 where
   pub path : List ℕ
-  pub bytes : List ℕ
+  pub text : List ℕ
   pub tree : Tree
   pub skipped : Bool
 
 -- it is the module of the file at its path, and skipped exactly where no tree spells its text
 pub record IsModuleOf (files : Files) (m : LoadedModule) : Type 0 where
-  pub bytes : m.bytes ≡ bytes_at files m.path
-  pub tree : IsTreeOf m.bytes m.tree
-  pub skipped : (m.skipped ≡ true) ↔ IsBad m.bytes
+  pub text : m.text ≡ text_at files m.path
+  pub tree : IsTreeOf m.text m.tree
+  pub skipped : (m.skipped ≡ true) ↔ IsBad m.text
 
 -- the modules of the application with this entry, by their paths
 pub record IsApplication (files : Files) (entry : List ℕ) (modules : List LoadedModule) : Type 0 where
@@ -91,10 +97,10 @@ pub record IsLink (files : Files) (modules : List LoadedModule) (link : Link) : 
 abbrev pub AreLinks : Files → List LoadedModule → List Link → Type 0
 AreLinks files modules links = (link : Link) → Contains links link ↔ IsLink files modules link
 
--- how many bytes the files have together
+-- how many bytes the texts have together
 abbrev pub total_bytes : Files → List (List ℕ) → ℕ
 total_bytes files [] = 0
-total_bytes files (path ∷ paths) = length (bytes_at files path) + total_bytes files paths
+total_bytes files (path ∷ paths) = length (text_at files path) + total_bytes files paths
 
 -- how many modules an application may have, and how many bytes
 abbrev pub module_limit : ℕ
@@ -110,4 +116,4 @@ pub record Fits (files : Files) (paths : List (List ℕ)) : Type 0 where
 
 -- each has a tree
 abbrev pub NoneBad : Files → List (List ℕ) → Type 0
-NoneBad files paths = All (λ path. IsBad (bytes_at files path) → ⊥) paths
+NoneBad files paths = All (λ path. IsBad (text_at files path) → ⊥) paths

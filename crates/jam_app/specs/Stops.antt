@@ -22,7 +22,7 @@ use Rattle.advisory_reader.specs.declared.fault.AdvisoryFault.TheVariants as adv
 use Rattle.jam_app.specs.declared.audit.report.Output.{Output}
 use Rattle.jam_app.specs.Outcomes.{IsOwedText, IsUnrefused}
 use Rattle.word_reader.specs.Requests.{Asked}
-use Rattle.jam_app.specs.Refusals.{IsRefusedAt}
+use Rattle.jam_app.specs.Refusals.{IsConstructAt, IsRefusedAt}
 
 -- a stop has its cause: the count rose, or the files give the refusal, which the line says
 abbrev pub HasStopCause : (Files → Refusal → Type 0) → Option Files → ℕ → ℕ → Stop → Type 0
@@ -62,15 +62,17 @@ pub record IsOwed (asked : Asked) (files : Files) (output : Output) : Type 0 whe
 abbrev pub StopsWide : ℕ → Stop → Type 0
 StopsWide size stop = (stop ≡ OutOfMemory) ⊎ ((size_limit ≤ size) × Refuses (refusal.TooWide size) stop)
 
--- why a file has no tree: it is too large, none spells its text, which reading left at the offset, or memory ran out
+-- why a text has no tree: it is too large, none spells it, and reading left it at the offset, at a construct or elsewhere, or memory ran out
 abbrev pub HasBadCause : List ℕ → Bad → Type 0
-HasBadCause bytes (bad.TooLarge n) = (limit < length bytes) × (n ≡ length bytes)
-HasBadCause bytes (bad.At place) = IsBad bytes × (length bytes ≤ limit) × IsRefusedAt bytes place.offset
-HasBadCause bytes bad.OutOfMemory = Unit {0}
+HasBadCause text (bad.TooLarge n) = (limit < length text) × (n ≡ length text)
+HasBadCause text (bad.Construct place what) = IsBad text × (length text ≤ limit) × IsConstructAt text place.offset what
+HasBadCause text (bad.At place) = IsBad text × (length text ≤ limit) × IsRefusedAt text place.offset
+HasBadCause text bad.OutOfMemory = Unit {0}
 
 -- what a module without a tree means for the run
 abbrev pub StopsFor : List ℕ → Bad → Stop → Type 0
 StopsFor path (bad.TooLarge n) stop = Refuses (refusal.TooLarge path n) stop
+StopsFor path (bad.Construct place what) stop = Refuses (refusal.Construct path place.offset what) stop
 StopsFor path (bad.At place) stop = Refuses (refusal.NotInProfile path place.offset) stop
 StopsFor path bad.OutOfMemory stop = stop ≡ OutOfMemory
 

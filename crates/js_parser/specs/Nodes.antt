@@ -1,88 +1,445 @@
 -- What each rule of the grammar reads, and what must hold of it.
-use Rattle.std.specs.Prelude.{◌≡◌, ℕ, ◌+◌, ◌≤◌, ◌<◌, max as greater, List, [], ◌∷◌, length, Option, Result, IfOk, Bool, true, false, ◌&&◌, ◌||◌}
+use Rattle.std.specs.Prelude.{◌≡◌, ℕ, ◌+◌, ◌≤◌, ◌<◌, ◌==◌, ◌-◌, nat_le, max, if◌then◌else◌, List, [], ◌∷◌, length, Option, Some, None, is_some, ◌⊎◌, Result, IfOk, IfErr, Bool, true, false, ◌&&◌, ◌||◌, not, codes}
+use Rattle.std.specs.List.{list_all}
+use Rattle.std.specs.Str.{bytes_eq}
 use Rattle.std.specs.declared.alloc.Global.{Global}
+use denote.Param.Members.{Shared}
 use denote.Ref.{MutBor}
-use Rattle.js_tree.specs.declared.form.Form.TheVariants as form
-use Rattle.js_tree.specs.declared.kind.TheConstants.{NAME, STRING, EQUALS, LEFT_BRACE, RIGHT_BRACE}
+use Rattle.js_tree.specs.declared.lists.Arm.{Arm}
+use Rattle.js_tree.specs.declared.lists.Block.{Block}
+use Rattle.js_tree.specs.declared.lists.Bracket.{Bracket}
+use Rattle.js_tree.specs.declared.lists.Element.{Element}
+use Rattle.js_tree.specs.declared.lists.Further.{Further}
+use Rattle.js_tree.specs.declared.lists.Init.{Init}
+use Rattle.js_tree.specs.declared.lists.Listed.{Listed}
+use Rattle.js_tree.specs.declared.lists.Tail.{Tail}
+use Rattle.js_tree.specs.declared.lists.Tail.TheVariants as tail
+use Rattle.js_tree.specs.declared.lists.Template.{Template}
 use Rattle.js_tree.specs.declared.token.Token.{Token}
-use Rattle.js_tree.specs.declared.tree.Arguments.{Arguments}
-use Rattle.js_tree.specs.declared.tree.Block.{Block}
-use Rattle.js_tree.specs.declared.tree.Expr.{Expr}
+use Rattle.js_tree.specs.declared.token_kind.TokenKind.{TokenKind}
+use Rattle.js_tree.specs.declared.token_kind.TokenKind.TheVariants as kind
+use Rattle.js_tree.specs.declared.tree.Expr.{Expr, out-Expr}
+use Rattle.js_tree.specs.declared.tree.Expr.TheOpen.{Expr-F}
+use Rattle.js_tree.specs.declared.tree.Pattern.{Pattern}
 use Rattle.js_tree.specs.declared.tree.Function.{Function}
-use Rattle.js_tree.specs.declared.tree.Listed.{Listed}
+use Rattle.js_tree.specs.declared.tree.Slot.{Slot}
 use Rattle.js_tree.specs.declared.tree.Stmt.{Stmt}
+use Rattle.js_tree.specs.Folds.{ExprLayer}
 use Rattle.js_tree.specs.Lexing.{Place}
-use Rattle.js_tree.specs.Kinds.{admits}
-use Rattle.js_tree.specs.Spelling.{Piece, Tok, Onto, Functional, one, maybe, each_of, listed_line, arguments_line, is_empty, is_string, is_done, expr, function, stmt, stmts, stmts_height}
-use Rattle.js_parser.specs.Heads.{head_line, is_require, is_exports, call_of, assign_of}
-use Rattle.js_parser.specs.declared.fault.ParseFault.{ParseFault}
-use Rattle.js_parser.specs.declared.path.Head.{Head}
+use Rattle.js_tree.specs.Pieces.{Piece, Tok, Ahead, Onto}
+use Rattle.js_tree.specs.Spelling.{expr, function, slot, stmt, stmts, stmts_height, tallest_of}
+use Rattle.js_tree.specs.Spelling.Functions.{parameter_fits}
+use Rattle.js_tree.specs.Operators.{is_assignment, on_line}
+use Rattle.js_tree.specs.Spelling.Chains.{is_call}
+use Rattle.js_tree.specs.Spelling.Patterns.{DECLARED}
+use Rattle.js_tree.specs.Spelling.Nodes.{ASSIGN, COND, BINARY, POWER, UNARY, NEW, pieces, unmarked, stands, is_empty, all_within, passes}
+use Rattle.js_tree.specs.Spelling.Rows.{mark, each_of, maybe, init_row, arm_row, bracket_row, element_row, further_row, template_parts, template_row, tail_row}
+use Rattle.js_tree.specs.TokenKinds.{is}
+use Rattle.js_tokens.specs.Pieces.{Reads, Read, OnlyRead, Gives, Moves, Refuses, Anywhere}
+use Rattle.js_tokens.specs.declared.fault.TokenFault.{TokenFault}
+use Rattle.js_parser.specs.declared.grammar.Grammar.{Grammar}
 use Rattle.js_parser.specs.declared.tall.Tall.{Tall}
-use Rattle.js_parser.specs.Reading.{Reads, Read, OnlyRead, Gives, Stops, Moves}
+use Rattle.js_parser.specs.declared.tall.Value.{Value}
+use Rattle.js_parser.specs.Following.{Stops, NoKind, Leads, rest_level, separates, begins_tail}
+use Rattle.js_parser.specs.Patterns.{Covers}
 
--- the greater of two heights
-abbrev pub max : ℕ → ℕ → ℕ
-max = greater
+-- LINES
 
--- the arguments of a call, without the brackets
-abbrev pub items_line : List (Listed Expr) → Onto
-items_line = each_of (listed_line expr)
+abbrev pub expr_line : Expr → Onto
+expr_line x = (expr x).line
 
--- none, where there may be none, or one string, where one may stand
-abbrev pub are_given : (strings empty : Bool) → List (Listed Expr) → Bool
-are_given strings empty xs = (empty && is_empty xs) || (strings && is_string expr xs)
+abbrev pub slot_line : Slot → Onto
+slot_line x = (slot x).line
 
-abbrev pub ArgumentsAt : (strings empty : Bool) → Arguments Expr → Type 0
-ArgumentsAt strings empty a = are_given strings empty a.items ≡ true
+abbrev pub stmt_line : Stmt → Onto
+stmt_line x = (stmt x).line
 
--- no string follows
-abbrev pub NoString : List Piece → Type 0
-NoString = Stops (admits (form.Kind STRING))
+abbrev pub value_line : Value → Onto
+value_line x = expr_line x.node
 
--- an expression that may be a statement, no taller than the room, with its height
-pub record DoneAt (room : ℕ) (x : Tall Expr) : Type 0 where
-  pub done : is_done (expr x.node).role ≡ true
+abbrev pub arguments_line : Bracket Expr → Onto
+arguments_line = bracket_row pieces expr_line
+
+abbrev pub parameters_line : Bracket Slot → Onto
+parameters_line = bracket_row pieces slot_line
+
+abbrev pub template_line : Template Expr → Onto
+template_line = template_row pieces expr_line
+
+abbrev pub tail_line : Tail Expr → Onto
+tail_line = tail_row pieces expr_line
+
+abbrev pub tails_line : List (Tail Expr) → Onto
+tails_line = each_of tail_line
+
+abbrev pub block_line : Block Stmt → Onto
+block_line b rest = mark pieces kind.LeftBrace b.begin (stmts b.body (mark pieces kind.RightBrace b.end rest))
+
+-- RULES
+
+-- what is said of a call that reads a node: what it answers was read from p to m, and whatever could be read at p is the
+-- answer; tokens were passed, or the text is refused behind some
+pub record ReadsAs {X : Type 0} (line : X → Onto) (P : X → Type 0) (S : X → List Piece → Type 0) (p m : Place) (result : Result X TokenFault) : Type 0 where
+  pub found : IfOk result (λ x. Read p (line x) m × P x)
+  pub only : OnlyRead line P S p m result
+  pub moves : Moves p m result
+  pub shorter : IfOk result (λ x. length m.left < length p.left)
+
+-- the same of what may be nothing
+pub record ReadsMaybe {X : Type 0} (line : X → Onto) (P : X → Type 0) (S : X → List Piece → Type 0) (p m : Place) (result : Result X TokenFault) : Type 0 where
+  pub found : IfOk result (λ x. Read p (line x) m × P x)
+  pub only : OnlyRead line P S p m result
+  pub moves : Moves p m result
+  pub shorter : IfOk result (λ x. length m.left ≤ length p.left)
+
+-- no such token follows where there is none
+abbrev pub NoMark : TokenKind → Option Token → List Piece → Type 0
+NoMark k o rest = is_some o ≡ false → NoKind (is k) rest
+
+-- VALUES
+
+-- the levels at which an expression is read
+abbrev pub is_level : ℕ → Bool
+is_level level = level == 0 || level == ASSIGN || (nat_le BINARY level && nat_le level UNARY) || level == NEW
+
+-- an expression of the level, no taller than the room, with its rank, its height and whether it is a target
+pub record ValueAt (level room : ℕ) (x : Value) : Type 0 where
+  pub stands : stands level (expr x.node) ≡ true
+  pub rank : x.rank ≡ (expr x.node).rank
+  pub target : x.is_target ≡ (expr x.node).is_target
   pub height : x.height ≡ (expr x.node).height
   pub fits : x.height ≤ room
 
--- a block in braces
-abbrev pub block_line : Block Stmt → Onto
-block_line b rest = one b.begin LEFT_BRACE (stmts b.body (one b.end RIGHT_BRACE rest))
+-- the expression doesn't go on with the pieces
+abbrev pub ValueStops : ℕ → Value → List Piece → Type 0
+ValueStops level x rest = Stops (rest_level level (expr x.node).rank) rest
 
--- a block no taller than the room, with its height
+-- what is said of a call that reads an expression
+abbrev pub ReadsExpr : (level room : ℕ) → Place → Place → Result Value TokenFault → Type 0
+ReadsExpr level room = ReadsAs value_line (ValueAt level room) (ValueStops level)
+
+-- the expression is as it must be, and has this rank and this height above what stands in it
+pub record IsSeen (x : Expr) (below order : ℕ) (is_target : Bool) : Type 0 where
+  pub sound : (expr x).is_sound ≡ true
+  pub rank : order ≡ (expr x).rank
+  pub target : is_target ≡ (expr x).is_target
+  pub height : below + 1 ≡ (expr x).height
+
+-- the answer is the expression as a value, refused where it is too tall
+pub record Makes (rank room : ℕ) (x : Expr) (p : Place) (result : Result Value TokenFault) : Type 0 where
+  pub found : IfOk result (λ v. (v.node ≡ x) × ValueAt rank room v)
+  pub only : (level : ℕ) (v : Value) → v.node ≡ x → ValueAt level room v → Gives result v (Unit {0})
+  pub moves : IfErr result (Refuses p)
+
+-- the height of an expression or of what stands behind it, whichever is greater
+abbrev pub higher : Expr → ℕ → ℕ
+higher x h = max (expr x).height h
+
+-- FURTHER OPERANDS
+
+abbrev pub further_line : ℕ → Further Expr → Onto
+further_line rank = further_row pieces expr_line (separates rank)
+
+abbrev pub further_stands : ℕ → Further Expr → Bool
+further_stands rank x = stands (rank + 1) (expr x.item)
+
+abbrev pub further_height : List (Further Expr) → ℕ
+further_height = tallest_of (λ x. (expr x.item).height)
+
+-- an expression of the rank is a list: a Comma, or a Binary
+abbrev pub IsListRank : ℕ → Type 0
+IsListRank rank = (rank ≡ 0) ⊎ (BINARY ≤ rank) × (rank < POWER)
+
+-- a further operand of an expression of the rank
+pub record OperandAt (rank room : ℕ) (x : Tall (Further Expr)) : Type 0 where
+  pub stands : further_stands rank x.node ≡ true
+  pub height : x.height ≡ (expr x.node.item).height
+  pub fits : x.height ≤ room
+
+abbrev pub ReadsOperand : (rank room : ℕ) → Place → Place → Result (Tall (Further Expr)) TokenFault → Type 0
+ReadsOperand rank room = ReadsAs (λ x. further_line rank x.node) (OperandAt rank room) (λ x. Stops (rank + 1))
+
+-- the operands behind the first of an expression of the rank
+pub record OperandsAt (rank room : ℕ) (x : Tall (List (Further Expr))) : Type 0 where
+  pub each : list_all (further_stands rank) x.node ≡ true
+  pub some : is_empty x.node ≡ false
+  pub height : x.height ≡ further_height x.node
+  pub fits : x.height ≤ room
+
+abbrev pub ReadsOperands : (rank room : ℕ) → Place → Place → Result (Tall (List (Further Expr))) TokenFault → Type 0
+ReadsOperands rank room = ReadsAs (λ x. each_of (further_line rank) x.node) (OperandsAt rank room) (λ x. Stops rank)
+
+-- the layer of a list of the rank
+abbrev pub list_layer : ℕ → Expr → List (Further Expr) → ExprLayer
+list_layer rank first others = if rank == 0 then Expr-F.Comma first others else Expr-F.Binary (rank - 2) first others
+
+-- WHAT FOLLOWS A FIRST EXPRESSION
+
+-- what is said of a call that reads on behind an expression, from m to n: with the expression it is the answer, and
+-- whatever could be read on is the answer
+pub record GoesOn (After : Value → Value → List Piece → List Piece → Type 0) (level room : ℕ) (head : Value) (m n : Place) (result : Result Value TokenFault) : Type 0 where
+  pub found : IfOk result (λ x. ((p : Place) → Read p (value_line head) m → Read p (value_line x) n) × ValueAt level room x)
+  pub only : (x : Value) (behind rest : List Piece) → After head x behind rest → ValueAt level room x → ValueStops level x rest → Reads m behind
+      → Gives result x (Reads n rest)
+  pub moves : Moves m n result
+  pub shorter : IfOk result (λ x. length n.left ≤ length m.left)
+
+-- the expression alone, or a list of the rank whose first operand it is
+pub data Joins (rank : ℕ) (head x : Value) (behind rest : List Piece) : Type 0 where
+  Alone : x ≡ head → behind ≡ rest → Joins rank head x behind rest
+  First : (others : List (Further Expr)) → out-Expr x.node ≡ list_layer rank head.node others → list_all (further_stands rank) others ≡ true → is_empty others ≡ false
+      → behind ≡ each_of (further_line rank) others rest → Joins rank head x behind rest
+
+-- the expression alone, or what is assigned to the pattern that it covers
+pub data AssignsTo (head x : Value) (behind rest : List Piece) : Type 0 where
+  Stays : x ≡ head → behind ≡ rest → AssignsTo head x behind rest
+  Assigns : (target : Pattern) (op : Token) (given : Expr) → out-Expr x.node ≡ Expr-F.Assign target op given → Covers head.node target
+      → behind ≡ Tok op is_assignment ∷ expr_line given rest → AssignsTo head x behind rest
+
+abbrev pub arm_line : Arm Expr → Onto
+arm_line = arm_row pieces expr_line
+
+abbrev pub arm_height : Arm Expr → ℕ
+arm_height x = max (expr x.test).height (expr x.value).height
+
+-- with its height
+abbrev pub tall_arm : Arm Expr → Tall (Arm Expr)
+tall_arm x = record { node = x; height = arm_height x }
+
+abbrev pub arm_stands : Arm Expr → Bool
+arm_stands x = stands BINARY (expr x.test) && stands ASSIGN (expr x.value)
+
+-- a choice whose first test is the expression
+pub record Chooses (head x : Value) (more rest : List Piece) : Type 0 where
+  pub question : Token
+  pub given : Expr
+  pub colon : Token
+  pub arms : List (Arm Expr)
+  pub last : Expr
+  pub is : out-Expr x.node ≡ Expr-F.Cond (record { test = head.node; question = question; value = given; colon = colon } ∷ arms) last
+  pub given_stands : stands ASSIGN (expr given) ≡ true
+  pub each : list_all arm_stands arms ≡ true
+  pub last_stands : stands ASSIGN (expr last) ≡ true
+  pub other : (expr last).rank ≡ COND → ⊥
+  pub behind : more ≡ mark pieces kind.Question question (expr_line given (mark pieces kind.Colon colon (each_of arm_line arms (expr_line last rest))))
+
+-- what is said of a call that reads on behind a test, from m to n: with it the arm is the answer
+pub record ReadsArm (room : ℕ) (test : Value) (m n : Place) (result : Result (Tall (Arm Expr)) TokenFault) : Type 0 where
+  pub found : IfOk result (λ x. ((p : Place) → Read p (value_line test) m → Read p (arm_line x.node) n) × (arm_stands x.node ≡ true) × (x.height ≡ arm_height x.node))
+  pub only : (question : Token) (given : Expr) (colon : Token) (rest : List Piece) → stands ASSIGN (expr given) ≡ true → (expr given).height < room
+      → Reads m (mark pieces kind.Question question (expr_line given (mark pieces kind.Colon colon rest)))
+      → Gives result (tall_arm (record { test = test.node; question = question; value = given; colon = colon })) (Reads n rest)
+  pub moves : Moves m n result
+  pub shorter : IfOk result (λ x. length n.left < length m.left)
+
+-- ARGUMENTS AND TEMPLATES
+
+abbrev pub argument_stands : Element Expr → Bool
+argument_stands x = stands ASSIGN (expr x.value)
+
+pub record ArgumentsAt (room : ℕ) (x : Tall (Bracket Expr)) : Type 0 where
+  pub each : all_within argument_stands x.node ≡ true
+  pub height : x.height ≡ bracket_row unmarked higher x.node 0
+  pub fits : x.height ≤ room
+
+abbrev pub ReadsArguments : ℕ → Place → Place → Result (Tall (Bracket Expr)) TokenFault → Type 0
+ReadsArguments room = ReadsAs (λ x. arguments_line x.node) (ArgumentsAt room) (Anywhere (Tall (Bracket Expr)))
+
+-- arguments, where there are any
+pub record MaybeArgumentsAt (room : ℕ) (x : Tall (Option (Bracket Expr))) : Type 0 where
+  pub each : passes (all_within argument_stands) x.node ≡ true
+  pub height : x.height ≡ maybe (bracket_row unmarked higher) x.node 0
+  pub fits : x.height ≤ room
+
+-- no arguments follow where there are none
+abbrev pub NoArguments : Tall (Option (Bracket Expr)) → List Piece → Type 0
+NoArguments x rest = is_some x.node ≡ false → NoKind (is kind.LeftParen) rest
+
+abbrev pub ReadsMaybeArguments : ℕ → Place → Place → Result (Tall (Option (Bracket Expr))) TokenFault → Type 0
+ReadsMaybeArguments room = ReadsMaybe (λ x. maybe arguments_line x.node) (MaybeArgumentsAt room) NoArguments
+
+pub record ElementAt (room : ℕ) (x : Tall (Element Expr)) : Type 0 where
+  pub stands : argument_stands x.node ≡ true
+  pub height : x.height ≡ (expr x.node.value).height
+  pub fits : x.height ≤ room
+
+abbrev pub ReadsElement : ℕ → Place → Place → Result (Tall (Element Expr)) TokenFault → Type 0
+ReadsElement room = ReadsAs (λ x. element_row pieces expr_line x.node) (ElementAt room) (λ x. Stops ASSIGN)
+
+abbrev pub substitution_stands : Listed Expr → Bool
+substitution_stands x = stands 0 (expr x.item)
+
+pub record TemplateAt (room : ℕ) (x : Tall (Template Expr)) : Type 0 where
+  pub each : list_all substitution_stands x.node.parts ≡ true
+  pub height : x.height ≡ template_row unmarked higher x.node 0
+  pub fits : x.height ≤ room
+
+abbrev pub ReadsTemplate : ℕ → Place → Place → Result (Tall (Template Expr)) TokenFault → Type 0
+ReadsTemplate room = ReadsAs (λ x. template_line x.node) (TemplateAt room) (Anywhere (Tall (Template Expr)))
+
+pub record SubstitutionsAt (room : ℕ) (x : Tall (List (Listed Expr))) : Type 0 where
+  pub each : list_all substitution_stands x.node ≡ true
+  pub some : is_empty x.node ≡ false
+  pub height : x.height ≡ tallest_of (λ y. (expr y.item).height) x.node
+  pub fits : x.height ≤ room
+
+abbrev pub ReadsSubstitutions : ℕ → Place → Place → Result (Tall (List (Listed Expr))) TokenFault → Type 0
+ReadsSubstitutions room = ReadsAs (λ x. template_parts pieces expr_line x.node) (SubstitutionsAt room) (Anywhere (Tall (List (Listed Expr))))
+
+-- TAILS
+
+-- the expression is the name `eval`
+abbrev pub names_eval : ExprLayer → Bool
+names_eval (Expr-F.«Expr::Name» t) = bytes_eq t.text (codes "eval")
+names_eval _ = false
+
+abbrev pub tail_stands : Tail Expr → Bool
+tail_stands (tail.Member dot name) = true
+tail_stands (tail.Index begin value end) = stands 0 (expr value)
+tail_stands (tail.Call b) = all_within argument_stands b
+tail_stands (tail.Template t) = list_all substitution_stands t.parts
+
+abbrev pub tail_height : Tail Expr → ℕ
+tail_height t = tail_row unmarked higher t 0
+
+pub record TailAt (room : ℕ) (x : Tall (Tail Expr)) : Type 0 where
+  pub stands : tail_stands x.node ≡ true
+  pub height : x.height ≡ tail_height x.node
+  pub fits : x.height ≤ room
+
+abbrev pub ReadsTail : ℕ → Place → Place → Result (Tall (Tail Expr)) TokenFault → Type 0
+ReadsTail room = ReadsAs (λ x. tail_line x.node) (TailAt room) (Anywhere (Tall (Tail Expr)))
+
+-- arguments were read only where `(` stands
+abbrev pub CallsHere : Place → Result (Tall (Tail Expr)) TokenFault → Type 0
+CallsHere p result = IfOk result (λ x. is_call x.node ≡ true → Leads (is kind.LeftParen) p)
+
+-- arguments among the tails only where they may stand there
+abbrev pub may_call : Bool → Tail Expr → Bool
+may_call calls t = calls || not (is_call t)
+
+pub record TailsAt (calls : Bool) (room : ℕ) (x : Tall (List (Tail Expr))) : Type 0 where
+  pub each : list_all (λ t. tail_stands t && may_call calls t) x.node ≡ true
+  pub height : x.height ≡ tallest_of tail_height x.node
+  pub fits : x.height ≤ room
+
+abbrev pub ReadsTails : Bool → ℕ → Place → Place → Result (Tall (List (Tail Expr))) TokenFault → Type 0
+ReadsTails calls room = ReadsMaybe (λ x. tails_line x.node) (TailsAt calls room) (λ x. NoKind (begins_tail calls))
+
+-- FUNCTIONS
+
+pub record ParametersAt (room : ℕ) (x : Tall (Bracket Slot)) : Type 0 where
+  pub each : all_within (λ (e : Element Slot). parameter_fits (record { dots = e.dots; value = slot e.value })) x.node ≡ true
+  pub height : x.height ≡ bracket_row unmarked (λ (s : Slot) h. max (slot s).height h) x.node 0
+  pub fits : x.height ≤ room
+
 pub record BlockAt (room : ℕ) (x : Tall (Block Stmt)) : Type 0 where
   pub height : x.height ≡ stmts_height x.node.body
   pub fits : x.height ≤ room
 
--- the name of a function, where it has one
-abbrev pub name_line : Option Token → Onto
-name_line name rest = maybe name NAME rest
-
--- a function with a name or without, no taller than the room, with its height
-pub record FunctionAt (named : Bool) (room : ℕ) (x : Tall Function) : Type 0 where
-  pub role : (function x.node).role ≡ Functional named
+pub record FunctionAt (room : ℕ) (x : Tall Function) : Type 0 where
   pub height : x.height ≡ (function x.node).height
   pub fits : x.height ≤ room
 
--- what a statement that begins with the head is, by what stands behind the head: a call or an assignment
-pub data AfterHead (head : Head) (x : Tall Expr) (behind rest : List Piece) : Type 0 where
-  Calls : (a : Arguments Expr) → x ≡ record { node = call_of head a; height = 2 } → ArgumentsAt (is_require head) true a → behind ≡ arguments_line expr a rest
-      → AfterHead head x behind rest
-  Assigns : (op : Token) (f : Function) → x ≡ record { node = assign_of head op f; height = max 3 ((function f).height + 1) + 1 } → is_exports head ≡ true
-      → (function f).role ≡ Functional false → behind ≡ one op EQUALS ((function f).line rest) → AfterHead head x behind rest
+abbrev pub ReadsParameters : ℕ → Place → Place → Result (Tall (Bracket Slot)) TokenFault → Type 0
+ReadsParameters room = ReadsAs (λ x. parameters_line x.node) (ParametersAt room) (Anywhere (Tall (Bracket Slot)))
 
--- the head and what was read behind it, from m to n, are the expression
-abbrev pub Continues : Head → Place → Place → Tall Expr → Type 0
-Continues head m n x = (p : Place) → Read p (head_line head) m → Read p (expr x.node).line n
+pub record ParameterAt (room : ℕ) (x : Tall (Element Slot)) : Type 0 where
+  pub fits : parameter_fits (record { dots = x.node.dots; value = slot x.node.value }) ≡ true
+  pub height : x.height ≡ (slot x.node.value).height
+  pub low : x.height ≤ room
 
--- whatever no taller than the room could be read behind the head is what was read, from m to n
-abbrev pub OnlyContinued : Head → ℕ → Place → Place → Result (Tall Expr) ParseFault → Type 0
-OnlyContinued head room m n result = (x : Tall Expr) (behind rest : List Piece) → AfterHead head x behind rest → x.height ≤ room → Reads m behind → Gives result x (Reads n rest)
+abbrev pub ReadsParameter : ℕ → Place → Place → Result (Tall (Element Slot)) TokenFault → Type 0
+ReadsParameter room = ReadsAs (λ x. element_row pieces slot_line x.node) (ParameterAt room) (Anywhere (Tall (Element Slot)))
+
+abbrev pub ReadsBlock : ℕ → Place → Place → Result (Tall (Block Stmt)) TokenFault → Type 0
+ReadsBlock room = ReadsAs (λ x. block_line x.node) (BlockAt room) (Anywhere (Tall (Block Stmt)))
+
+abbrev pub ReadsFunction : ℕ → Place → Place → Result (Tall Function) TokenFault → Type 0
+ReadsFunction room = ReadsAs (λ x. (function x.node).line) (FunctionAt room) (Anywhere (Tall Function))
+
+-- what a declared name is given, where it is given anything
+abbrev pub init_line : Option (Init Expr) → Onto
+init_line = maybe (init_row pieces expr_line)
+
+abbrev pub init_stands : Option (Init Expr) → Bool
+init_stands = passes (λ i. stands ASSIGN (expr i.value))
+
+abbrev pub init_height : Option (Init Expr) → ℕ
+init_height o = maybe (λ (i : Init Expr) h. max (expr i.value).height h) o 0
+
+pub record InitAt (room : ℕ) (x : Tall (Option (Init Expr))) : Type 0 where
+  pub stands : init_stands x.node ≡ true
+  pub height : x.height ≡ init_height x.node
+  pub fits : x.height ≤ room
+
+abbrev pub ReadsInit : ℕ → Place → Place → Result (Tall (Option (Init Expr))) TokenFault → Type 0
+ReadsInit room = ReadsMaybe (λ x. init_line x.node) (InitAt room) (λ x. Stops ASSIGN)
+
+-- a declared name and what it is given
+pub record SlotAt (room : ℕ) (x : Tall Slot) : Type 0 where
+  pub stands : stands DECLARED (slot x.node) ≡ true
+  pub height : x.height ≡ (slot x.node).height
+  pub fits : x.height ≤ room
+
+abbrev pub ReadsSlot : ℕ → Place → Place → Result (Tall Slot) TokenFault → Type 0
+ReadsSlot room = ReadsAs (λ x. slot_line x.node) (SlotAt room) (λ x. Stops ASSIGN)
+
+-- a further one, with its comma
+pub record FurtherSlotAt (room : ℕ) (x : Tall (Further Slot)) : Type 0 where
+  pub stands : stands DECLARED (slot x.node.item) ≡ true
+  pub height : x.height ≡ (slot x.node.item).height
+  pub fits : x.height ≤ room
+
+abbrev pub further_slot_line : Further Slot → Onto
+further_slot_line = further_row pieces slot_line (is kind.Comma)
+
+abbrev pub ReadsFurtherSlot : ℕ → Place → Place → Result (Tall (Further Slot)) TokenFault → Type 0
+ReadsFurtherSlot room = ReadsAs (λ x. further_slot_line x.node) (FurtherSlotAt room) (λ x. Stops ASSIGN)
+
+pub record SlotsAt (room : ℕ) (x : Tall (List (Further Slot))) : Type 0 where
+  pub each : list_all (λ y. stands DECLARED (slot y.item)) x.node ≡ true
+  pub height : x.height ≡ tallest_of (λ y. (slot y.item).height) x.node
+  pub fits : x.height ≤ room
+
+abbrev pub slots_line : List (Further Slot) → Onto
+slots_line = each_of further_slot_line
+
+abbrev pub ReadsSlots : ℕ → Place → Place → Result (Tall (List (Further Slot))) TokenFault → Type 0
+ReadsSlots room = ReadsMaybe (λ x. slots_line x.node) (SlotsAt room) (λ x. Stops 0)
+
+-- STATEMENTS
 
 -- a statement no taller than the room, with its height
 pub record StmtAt (room : ℕ) (x : Tall Stmt) : Type 0 where
   pub height : x.height ≡ (stmt x.node).height
   pub fits : x.height ≤ room
+
+abbrev pub ReadsStmt : ℕ → Place → Place → Result (Tall Stmt) TokenFault → Type 0
+ReadsStmt room = ReadsAs (λ x. stmt_line x.node) (StmtAt room) (Anywhere (Tall Stmt))
+
+-- what a function gives, on the line of its word
+abbrev pub given_line : Option Expr → Onto
+given_line = maybe (λ x rest. Ahead on_line ∷ expr_line x rest)
+
+abbrev pub given_stands : Option Expr → Bool
+given_stands = passes (λ x. stands 0 (expr x))
+
+abbrev pub given_height : Option Expr → ℕ
+given_height o = maybe (λ (x : Expr) h. max (expr x).height h) o 0
+
+pub record GivenAt (room : ℕ) (x : Tall (Option Expr)) : Type 0 where
+  pub stands : given_stands x.node ≡ true
+  pub height : x.height ≡ given_height x.node
+  pub fits : x.height ≤ room
+
+-- a `;` follows
+abbrev pub BeforeSemicolon : List Piece → Type 0
+BeforeSemicolon [] = ⊥
+BeforeSemicolon (x ∷ xs) = (t : Token) × (x ≡ Tok t (is kind.Semicolon))
+
+abbrev pub ReadsGiven : ℕ → Place → Place → Result (Tall (Option Expr)) TokenFault → Type 0
+ReadsGiven room = ReadsMaybe (λ x. given_line x.node) (GivenAt room) (λ x. BeforeSemicolon)
 
 -- statements no taller than the room, with the height of the tallest
 pub record StmtsAt (room : ℕ) (x : Tall (List Stmt)) : Type 0 where
@@ -92,18 +449,24 @@ pub record StmtsAt (room : ℕ) (x : Tall (List Stmt)) : Type 0 where
 -- no statement follows: a `}` does, or the end
 abbrev pub Closes : List Piece → Type 0
 Closes [] = Unit {0}
-Closes (x ∷ xs) = (t : Token) × (x ≡ Tok t (form.Kind RIGHT_BRACE))
+Closes (x ∷ xs) = (t : Token) × (x ≡ Tok t (is kind.RightBrace))
 
--- what is said of a call that reads statements
-pub record ReadsStmts (room : ℕ) (p m : Place) (result : Result (Tall (List Stmt)) ParseFault) : Type 0 where
-  pub found : IfOk result (λ x. Read p (stmts x.node) m × StmtsAt room x)
-  pub only : OnlyRead (λ (x : Tall (List Stmt)). stmts x.node) (StmtsAt room) (λ x. Closes) p m result
-  pub moves : Moves p m result
-  pub shorter : IfOk result (λ x. length m.left ≤ length p.left)
+abbrev pub ReadsStmts : ℕ → Place → Place → Result (Tall (List Stmt)) TokenFault → Type 0
+ReadsStmts room = ReadsMaybe (λ x. stmts x.node) (StmtsAt room) (λ x. Closes)
 
--- a function value that reads the statements in a node with less room
-pub record Knot (limit : ℕ)
-    (stmts_pre : Global → MutBor Place → ℕ → Type 0) (stmts_post : Global → MutBor Place → ℕ → Result (Tall (List Stmt)) ParseFault → MutBor Place → Type 0) : Type 0 where
-  pub stmts_callable : (alloc : Global) (old : MutBor Place) (room : ℕ) → room < limit → stmts_pre alloc old room
-  pub stmts_read : (alloc : Global) (old new : MutBor Place) (room : ℕ) (r : Result (Tall (List Stmt)) ParseFault) → room < limit → stmts_post alloc old room r new
+-- THE KNOT
+
+-- what a call of a reader leaves: its answer, and the place behind what it read
+abbrev pub Leaves : Type 0 → Type 0
+Leaves X = Result X TokenFault × (MutBor Place × Unit {0})
+
+-- the readers that the rules hold read what stands in a node, with less room than the rules have: an expression of a
+-- level, and statements
+pub record Knot {E S : Type 0} (expr_reader : Shared E (Global × (MutBor Place × (ℕ × (ℕ × Unit {0})))) (Leaves Value)) (stmts_reader : Shared S (Global × (MutBor Place × (ℕ × Unit {0}))) (Leaves (Tall (List Stmt))))
+    (rules : Grammar E S) : Type 0 where
+  pub expr_callable : (alloc : Global) (old : MutBor Place) (room level : ℕ) → room < rules.room → is_level level ≡ true → expr_reader.pre rules.expr (alloc, (old, (room, (level, tt))))
+  pub expr_reads : (alloc : Global) (old new : MutBor Place) (room level : ℕ) (r : Result Value TokenFault) → room < rules.room → is_level level ≡ true
+      → expr_reader.post rules.expr (alloc, (old, (room, (level, tt)))) (r, (new, tt)) → ReadsExpr level room old.now new.now r
+  pub stmts_callable : (alloc : Global) (old : MutBor Place) (room : ℕ) → room < rules.room → stmts_reader.pre rules.stmts (alloc, (old, (room, tt)))
+  pub stmts_read : (alloc : Global) (old new : MutBor Place) (room : ℕ) (r : Result (Tall (List Stmt)) TokenFault) → room < rules.room → stmts_reader.post rules.stmts (alloc, (old, (room, tt))) (r, (new, tt))
       → ReadsStmts room old.now new.now r

@@ -1,7 +1,18 @@
 //! Why a text isn't read.
-use jam_base::OutOfMemory;
-use std::alloc::AllocError;
 use thiserror::Error;
+
+/// What the profile leaves out by name.
+#[derive(Clone, Copy, Debug, PartialEq, Eq)]
+pub enum Construct {
+    /// A direct call of `eval`.
+    Eval,
+    /// The statement `with`.
+    With,
+    /// `import`
+    Import,
+    /// `export`
+    Export,
+}
 
 /// Why a text isn't read.
 #[derive(Clone, Copy, Debug, PartialEq, Eq, Error)]
@@ -12,6 +23,14 @@ pub enum ParseFault {
         /// How many bytes it has.
         length: u64,
     },
+    /// Reading stopped at a construct that the profile leaves out.
+    #[error("a construct outside the profile at {at}")]
+    Construct {
+        /// The offset in bytes, from 0, of its word.
+        at: u32,
+        /// Which one.
+        what: Construct,
+    },
     /// No tree spells the text.
     #[error("not in the profile at {at}")]
     NotInProfile {
@@ -21,26 +40,4 @@ pub enum ParseFault {
     /// A growth found no memory.
     #[error("out of memory")]
     OutOfMemory,
-}
-
-impl From<AllocError> for ParseFault {
-    ghost use Rattle.std.specs.Prelude.{◌≡◌};
-    ghost use Rattle.js_parser.specs.declared.fault.ParseFault.TheVariants as fault;
-
-    ghost from_gives = { λ _ e. e ≡ fault.OutOfMemory };
-
-    fn from(_: AllocError) -> ParseFault {
-        ParseFault::OutOfMemory
-    }
-}
-
-impl From<OutOfMemory> for ParseFault {
-    ghost use Rattle.std.specs.Prelude.{◌≡◌};
-    ghost use Rattle.js_parser.specs.declared.fault.ParseFault.TheVariants as fault;
-
-    ghost from_gives = { λ _ e. e ≡ fault.OutOfMemory };
-
-    fn from(_: OutOfMemory) -> ParseFault {
-        ParseFault::OutOfMemory
-    }
 }

@@ -1,29 +1,48 @@
-//! The knot of the grammar: the parser of the statements in a node is this function itself, with less room.
-ghost use Rattle.std.specs.Prelude.{◌≤◌, IfOk, length};
-ghost use Rattle.js_tree.specs.Spelling as spec;
-ghost use Rattle.js_parser.specs.Nodes as nodes;
-ghost use Rattle.js_parser.specs.Nodes.{StmtsAt};
-ghost use Rattle.js_parser.specs.Reading.{Read, OnlyRead, Moves};
+//! The knot of the grammar: what stands in a node is read by these functions, with less room.
+ghost use Rattle.std.specs.Prelude.{◌≡◌, true};
+ghost use Rattle.js_parser.specs.Nodes.{is_level, ReadsExpr, ReadsStmts};
 
-use crate::fault::ParseFault;
 use crate::grammar::Grammar;
-use crate::lexer::Lexer;
-use crate::tall::Tall;
+use crate::tall::{Tall, Value};
+use js_tokens::{TokenFault, TokenReader};
 use js_tree::Stmt;
 use sqlite_items::Items;
 use std::alloc::Global;
+
+/// An expression of the level, no taller than the room.
+#[cycle(knot)]
+pub fn expr(
+    alloc: Global,
+    reader: &mut TokenReader<'_>,
+    room: u32,
+    level: u8,
+) -> Result<Value, TokenFault>
+    requires level { is_level level ≡ true }
+    ensures reads { ReadsExpr level room reader.old reader.new result }
+{
+    Grammar {
+        alloc,
+        room,
+        expr,
+        stmts,
+    }
+    .expression(reader, level)
+}
 
 /// Statements no taller than the room, up to a `}` or the end.
 #[cycle(knot)]
 pub fn stmts(
     alloc: Global,
-    lexer: &mut Lexer<'_>,
+    reader: &mut TokenReader<'_>,
     room: u32,
-) -> Result<Tall<Items<Stmt>>, ParseFault>
-    ensures found { IfOk result (λ x. Read lexer.old (spec.stmts x.node) lexer.new × StmtsAt room x) }
-    ensures only { OnlyRead (λ x. spec.stmts x.node) (StmtsAt room) (λ _. nodes.Closes) lexer.old lexer.new result }
-    ensures moves { Moves lexer.old lexer.new result }
-    ensures shorter { IfOk result (λ _. length lexer.new.left ≤ length lexer.old.left) }
+) -> Result<Tall<Items<Stmt>>, TokenFault>
+    ensures reads { ReadsStmts room reader.old reader.new result }
 {
-    Grammar { alloc, room, stmts }.statements(lexer, room)
+    Grammar {
+        alloc,
+        room,
+        expr,
+        stmts,
+    }
+    .statements(reader)
 }

@@ -1,21 +1,28 @@
-//! Reads a text as the syntax tree that it spells.
+//! The tree that spells a text (ECMA-262, clauses 11 to 15).
+//!
+//! Read `whole` first, then `knot` and `grammar`, then the rules from outside in: `statements`, `functions`,
+//! `expressions`, `assignments`, `operands`, `chains`, `tails`, `primaries`. `kinds` has the tests of tokens that choose
+//! between rules. Of the specs `Answers` is what `parse` promises; the others serve its proof.
 #![tactic(auto)]
 
-mod arguments;
-mod call;
-mod chars;
+mod assignments;
+mod brackets;
+mod chains;
+mod expressions;
 mod fault;
+mod functions;
 mod grammar;
-mod head;
+mod kinds;
 mod knot;
-mod lexer;
-mod path;
-mod rules;
-mod scan;
+mod marks;
+mod operands;
+mod patterns;
+mod primaries;
+mod statements;
+mod tails;
 mod tall;
-mod variables;
+mod values;
 mod whole;
-mod words;
 
-pub use fault::ParseFault;
+pub use fault::{Construct, ParseFault};
 pub use whole::parse;

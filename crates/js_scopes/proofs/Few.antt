@@ -8,22 +8,29 @@ use Rattle.jam_base.specs.Ascending.{ascending, with_item}
 use Rattle.jam_base.proofs.Merging.{IsLess, IsEqual, IsGreater, case_of, item_less, item_equal, item_greater}
 use Rattle.js_tree.specs.declared.token.Token.{Token}
 use Rattle.js_tree.specs.declared.tree.Expr.{out-Expr}
-use Rattle.js_tree.specs.declared.tree.Expr.TheOpen.{Expr-F, Function-F, Pattern-F, Stmt-F}
+use Rattle.js_tree.specs.declared.tree.Expr.TheOpen.{Expr-F, Pattern-F, Stmt-F}
 use Rattle.js_tree.specs.declared.tree.Function.{Function, out-Function}
 use Rattle.js_tree.specs.declared.tree.Pattern.{out-Pattern}
-use Rattle.js_tree.specs.declared.tree.Stmt.{Stmt, out-Stmt}
+use Rattle.js_tree.specs.declared.tree.Stmt.{out-Stmt}
 use Rattle.js_tree.specs.declared.tree.Tree.{Tree}
-use Rattle.js_tree.specs.Folds.{ExprLayer, FunctionLayer, PatternLayer, StmtLayer, seen_function, seen_stmt}
-use Rattle.js_tree.specs.Parts.{Node, AnExpr, AFunction, APattern, AStmt, ASlot, ATail, ABody, as_nodes, expr_parts, in_function, in_stmt, parts, gathered}
-use Rattle.js_tree.specs.Tokens.{IsInText, function_tokens, name_tokens, own_tokens, pattern_tokens, tokens_in}
+use Rattle.js_tree.specs.Folds.{ExprLayer, PatternLayer, StmtLayer}
+use Rattle.js_tree.specs.Line.{items}
+use Rattle.js_tree.specs.Parts.{Node, AnExpr, AFunction, APattern, AStmt, ASlot, ATail, ABody, nodes, parts, gathered}
+use Rattle.js_tree.specs.Spelling.Expressions.{expr_row}
+use Rattle.js_tree.specs.Spelling.Patterns.{pattern_row}
+use Rattle.js_tree.specs.Spelling.Statements.{stmt_row}
+use Rattle.js_tree.specs.Tokens.{IsInText, own_tokens, tokens_among, tokens_in}
 use Rattle.js_tree.proofs.EachNode.{paid}
 use Rattle.js_tree.proofs.GatherLemmas.{along_parts}
 use Rattle.js_tree.proofs.PartLemmas.{gathered_is, gathered_passed}
 use Rattle.js_tree.proofs.TextLemmas.{tokens_count, total, total_more}
+use Rattle.js_scopes.specs.Brackets.{listed}
+use Rattle.js_scopes.specs.Functions.{functions_in, given_in, own_functions, own_name}
 use Rattle.js_scopes.specs.Indexed.{scope_starts}
 use Rattle.js_scopes.specs.Names.{Scope, firsts, is_name, wrapper_name}
-use Rattle.js_scopes.specs.Scopes.{anonymous, body_in, body_scope, declared_by_pattern, declared_by_stmt, declared_by_var, declared_in, function_order, functions_in, given_in, inner_functions, module_scope, name_in, name_list, own_declared, own_functions, own_name, scope_in_expr, scope_list, still_declares}
+use Rattle.js_scopes.specs.Scopes.{declared_by_pattern, declared_by_stmt, declared_by_var, declared_in, function_order, inner_functions, module_scope, own_declared, scope_in_expr, scope_of, still_declares}
 use Rattle.js_scopes.specs.Walks.{first_starts, local_starts, own_starts}
+use Rattle.js_scopes.proofs.OwnTokens.{params_owned}
 
 -- a list in order has as many items or fewer
 module _ {X : Type 0} (order : X → X → Ordering) where
@@ -42,11 +49,8 @@ module _ {X : Type 0} (order : X → X → Ordering) where
 
 -- FUNCTIONS
 
-function_paid : (l : FunctionLayer) → 1 ≤ length (function_tokens l)
-function_paid (Function-F.Keyword word name params body) = omega arith
-
-functions_paid : (n : Node) (c : List ℕ) → length (own_functions n c) + 0 ≤ 16 * length (own_tokens n) + sum_by (λ m. 0) (parts n)
-functions_paid (AFunction f) c = let a = function_paid (out-Function f) in omega (arith, a)
+functions_paid : (n : Node) (c : Option Token) → length (own_functions n c) + 0 ≤ 16 * length (own_tokens n) + sum_by (λ m. 0) (parts n)
+functions_paid (AFunction f) c = let a = params_owned (out-Function f) in omega (arith, a)
 functions_paid (AnExpr x) c = omega arith
 functions_paid (APattern x) c = omega arith
 functions_paid (AStmt x) c = omega arith
@@ -57,8 +61,8 @@ functions_paid (ABody body) c = omega arith
 pub few_functions : (tree : Tree) → IsInText (ABody tree.body) → length (inner_functions tree) < 4294967295
 few_functions tree h =
     let few = h.few in
-    let a = shorter function_order (functions_in (ABody tree.body) anonymous) in
-    let b = paid own_functions (λ n given. Some (given_in n given)) (λ n. 0) functions_paid (ABody tree.body) anonymous in
+    let a = shorter function_order (functions_in (ABody tree.body) None) in
+    let b = paid own_functions (λ n given. Some (given_in n given)) (λ n. 0) functions_paid (ABody tree.body) None in
     omega (arith, few, a, b)
 
 -- NAMES
@@ -107,11 +111,11 @@ declared_through n m e = ap (λ (xs : Scope). length xs) (gathered_is own_declar
 declared_passed : (n : Node) (m : Bool) → still_declares n m ≡ None → length (declared_in n m) ≡ length (own_declared n m)
 declared_passed n m e = ap (λ (xs : Scope). length xs) (gathered_passed own_declared still_declares n m e)
 
-expr_starts : (y : ExprLayer) → length (flat_map scope_starts (scope_list (scope_in_expr y))) ≤ sum_by spare (expr_parts y)
+expr_starts : (y : ExprLayer) → length (flat_map scope_starts (listed (scope_in_expr y))) ≤ sum_by spare (expr_row nodes y [])
 expr_starts (Expr-F.«Expr::Fun» f) = let a = length-append (scope_starts (own_name f)) [] in let b = few_starts (own_name f) in let c = sum_by-cons spare (AFunction f) [] in omega (arith, a, b, c)
 expr_starts _ = omega arith
 
-stmt_names : (y : StmtLayer) → length (declared_by_stmt y) ≤ sum_by spare (in_stmt (seen_stmt as_nodes y))
+stmt_names : (y : StmtLayer) → length (declared_by_stmt y) ≤ sum_by spare (stmt_row nodes y [])
 stmt_names (Stmt-F.«Stmt::Fun» f) = let c = sum_by-cons spare (AFunction f) [] in omega (arith, c)
 stmt_names _ = omega arith
 
@@ -123,28 +127,15 @@ var_names true t = by (is_some (wrapper_name t.text))
     by true = omega arith
     by false = omega arith
 
-pattern_names : (y : PatternLayer) (m : Bool) → length (declared_by_pattern y m) ≤ length (pattern_tokens y)
+pattern_names : (y : PatternLayer) (m : Bool) → length (declared_by_pattern y m) ≤ length (tokens_among (pattern_row items y []))
 pattern_names (Pattern-F.«Pattern::Name» t) m = let a = var_names m t in omega (arith, a)
-pattern_names (Pattern-F.Member chain) m = omega arith
-
-name_count : (o : Option Token) → length (name_tokens o) ≡ length (name_list o)
-name_count None = refl
-name_count (Some t) = refl
-
-function_names : (y : FunctionLayer) → 1 + length (name_list (name_in y)) ≤ length (function_tokens y)
-function_names (Function-F.Keyword word name params body) = let a = name_count name in omega (arith, a)
-
-function_parts : (y : FunctionLayer) → in_function (seen_function as_nodes y) ≡ map AStmt (body_in y)
-function_parts (Function-F.Keyword word name params body) = refl
+pattern_names _ m = omega arith
 
 function_starts : (f : Function) → length (own_starts (AFunction f) tt) ≤ length (flat_map (λ k. declared_in k false) (parts (AFunction f)))
 function_starts f =
-    let body = ABody (body_in (out-Function f)) in
-    let a = length-append (scope_starts (body_scope false (body_in (out-Function f)))) [] in
-    let b = few_starts (body_scope false (body_in (out-Function f))) in
-    let c = declared_through body false refl in
-    let d = ap (λ ps. length (flat_map (λ k. declared_in k false) ps)) (function_parts (out-Function f)) in
-    omega (arith, a, b, c, d)
+    let a = length-append (scope_starts (scope_of false (AFunction f))) [] in
+    let b = few_starts (scope_of false (AFunction f)) in
+    omega (arith, a, b)
 
 declares : (n : Node) → AllByRecursion Declares (parts n) → Declares n
 declares (AnExpr x) each m =
@@ -153,7 +144,7 @@ declares (AnExpr x) each m =
     omega (arith, a, b, c, d, e)
 declares (AFunction f) each m =
     let n = AFunction f in
-    let a = all_declare (parts n) false each in let b = declared_passed n m refl in let c = starts_are n in let d = function_starts f in let e = tokens_count n in let g = function_names (out-Function f) in
+    let a = all_declare (parts n) false each in let b = declared_passed n m refl in let c = starts_are n in let d = function_starts f in let e = tokens_count n in let g = params_owned (out-Function f) in
     omega (arith, a, b, c, d, e, g)
 declares (APattern x) each m =
     let n = APattern x in
@@ -176,10 +167,17 @@ declares (ABody body) each m =
     let a = all_declare (parts n) m each in let b = declared_through n m refl in let c = starts_are n in let e = tokens_count n in
     omega (arith, a, b, c, e)
 
+each_declares : (ns : List Node) → AllByRecursion Declares ns
+each_declares [] = tt
+each_declares (n ∷ ns) = (along_parts Declares declares n, each_declares ns)
+
 pub few_locals : (tree : Tree) → IsInText (ABody tree.body) → length (local_starts (module_scope tree) tree) < 4294967296
 few_locals tree h =
+    let n = ABody tree.body in
     let few = h.few in
-    let a = along_parts Declares declares (ABody tree.body) true in
+    let a = all_declare (parts n) true (each_declares (parts n)) in
     let b = few_starts (module_scope tree) in
-    let c = length-append (scope_starts (module_scope tree)) (first_starts (ABody tree.body)) in
-    omega (arith, few, a, b, c)
+    let c = length-append (scope_starts (module_scope tree)) (first_starts n) in
+    let d = starts_are n in
+    let e = tokens_count n in
+    omega (arith, few, a, b, c, d, e)

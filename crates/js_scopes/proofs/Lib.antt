@@ -1,8 +1,9 @@
 pub mod Around
+pub mod BracketLemmas
 pub mod Counts
 pub mod Few
 pub mod FirstLemmas
-pub mod GivenLemmas
 pub mod Kept
 pub mod Layers
+pub mod OwnTokens
 pub mod Steps

@@ -3,9 +3,6 @@ use Rattle.std.specs.Prelude.{ℕ, List, [], ◌++◌, ◌∷◌, map, Some, is_
 use Rattle.std.specs.Borrow.{Bor}
 use Rattle.std.specs.List.{flat_map}
 use Rattle.js_tree.specs.declared.token.Token.{Token}
-use Rattle.js_tree.specs.declared.tree.Expr.{Expr}
-use Rattle.js_tree.specs.declared.tree.Tail.{Tail}
-use Rattle.js_tree.specs.declared.tree.Tail.TheVariants as tail
 use Rattle.js_tree.specs.declared.tree.Tree.{Tree}
 use Rattle.js_tree.specs.Parts.{Node, ABody, gathered}
 use Rattle.js_scopes.specs.Names.{Scope}

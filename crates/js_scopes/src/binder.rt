@@ -18,7 +18,7 @@ use crate::declaration::Scope;
 use crate::declared::first_tokens;
 use crate::function::{FunctionInfo, inner_functions};
 use crate::names::{Numbers, Surroundings, push_node};
-use crate::scope::body_scope;
+use crate::scope::scope_of;
 use jam_base::OutOfMemory;
 use js_tree::{Node, Tree};
 use std::alloc::Global;
@@ -29,7 +29,7 @@ pub fn bind(alloc: Global, tree: &Tree) -> Result<Bindings, OutOfMemory>
     ensures { IfOk result (λ bindings. (start : ℕ) → meaning_in bindings start ≡ binding_of tree.now start) }
 {
     let functions = inner_functions(alloc, tree)?;
-    let scope = body_scope(alloc, tree.body.as_slice(), true)?;
+    let scope = scope_of(alloc, Node::Body(tree.body.as_slice()), true)?;
     let mut starts = first_tokens(alloc, tree, &scope)?;
     starts.sort_unstable();
     let found = names_in(alloc, functions.as_slice(), starts.as_slice(), &scope, tree)?;

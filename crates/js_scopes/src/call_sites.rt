@@ -1,21 +1,24 @@
 //! The call sites of a module.
-ghost use Rattle.std.specs.Prelude.{◌≡◌, ◌<◌, ◌++◌, length, IfOk, OnOk};
-ghost use Rattle.std.specs.Option.{option_map};
-ghost use Rattle.js_tree.specs.Parts.{ATail, items_in};
+ghost use Rattle.std.specs.Prelude.{◌≡◌, ◌<◌, ◌+◌, ◌++◌, ◌∷◌, [], length, IfOk, OnOk};
+ghost use Rattle.js_tree.specs.declared.tree.Expr.{out-Expr};
+ghost use Rattle.js_tree.specs.Parts.{AnExpr, ATail};
 ghost use Rattle.js_tree.specs.Spells.{SpellsSome};
 ghost use Rattle.js_tree.specs.Tokens.{IsInText};
 ghost use Rattle.js_scopes.specs.AtHand.{known_in};
-ghost use Rattle.js_scopes.specs.Scopes.{sites_of, sites_of_tail, arguments_sites, known_of};
-ghost use Rattle.js_scopes.specs.Scopes as seen;
+ghost use Rattle.js_scopes.specs.Brackets.{elements, placed};
+ghost use Rattle.js_scopes.specs.Calls as calls;
+ghost use Rattle.js_scopes.specs.Functions as seen;
+ghost use Rattle.js_scopes.specs.Scopes.{sites_of, known_of};
 
 use crate::binder::bind;
-use crate::calls::{is_required, push_own_sites};
+use crate::brackets::count_placed;
+use crate::calls::{push_call_sites, push_site};
 use crate::function::inner_functions;
-use crate::function_names::member_of;
 use crate::known::Known;
+use crate::members::last_member;
 use crate::site::SiteInfo;
 use jam_base::{List, OutOfMemory, Text, ascending};
-use js_tree::{Arguments, Expr, Function, Gather, Node, Tail, Tree, walk_tree};
+use js_tree::{Bracket, Expr, Function, Gather, Node, Tail, Template, Tree, walk_tree};
 use sqlite_items::Boxed;
 use std::alloc::Global;
 
@@ -57,7 +60,7 @@ impl<'t, 'm> Gather<'t> for CallSites<'m> {
     ghost use Rattle.std.specs.Prelude.{ℕ, Some};
     ghost use Rattle.js_scopes.specs.declared.site.SiteInfo.{SiteInfo as Site};
     ghost use Rattle.js_scopes.specs.AtHand.{known_in};
-    ghost use Rattle.js_scopes.specs.Scopes.{own_sites, holder_in};
+    ghost use Rattle.js_scopes.specs.Calls.{own_sites, holder_in};
 
     type Around = u32;
 
@@ -77,14 +80,15 @@ impl<'t, 'm> Gather<'t> for CallSites<'m> {
 
     fn push_own(
         &self,
-        _alloc: Global,
+        alloc: Global,
         node: Node<'t>,
         around: u32,
         out: &mut Vec<SiteInfo>,
     ) -> Result<(), OutOfMemory> {
         match node {
+            Node::Expr(value) => push_made(value, around, out),
             Node::Tail { head, before, tail } => {
-                push_tail(self.known, head, before, tail, around, out)
+                push_tail(alloc, self.known, head, before, tail, around, out)
             }
             _ => Ok(()),
         }
@@ -100,11 +104,45 @@ pub fn start_of(function: &Function) -> u32
     ensures { result ≡ seen.start_of function.now }
 {
     match function {
-        Function::Keyword { word, .. } => word.start,
+        Function::Keyword {
+            word,
+            name: _,
+            params: _,
+            body: _,
+        } => word.start,
     }
 }
 
+// Adds the site of `new`, where the expression is one.
+fn push_made(value: &Expr, holder: u32, out: &mut Vec<SiteInfo>) -> Result<(), OutOfMemory>
+    requires { IsInText (AnExpr value.now) }
+    ensures { OnOk result (out.new.items ≡ out.old.items ++ calls.sites_of_expr holder (out-Expr value.now)) }
+{
+    match value {
+        Expr::New {
+            word,
+            head: _,
+            tails: _,
+            args,
+        } => push_site(holder, word.start, count_made(args), out),
+        _ => Ok(()),
+    }
+}
+
+// How many of the arguments of `new` have a place.
+fn count_made(args: &Option<Boxed<Bracket<Boxed<Expr>>>>) -> u32
+    requires { length (calls.made_with args.now) < 4294967296 }
+    ensures { result ≡ length (placed (calls.made_with args.now)) }
+{
+    match args {
+        None => 0,
+        Some(arguments) => count_placed(arguments.get()),
+    }
+}
+
+// Adds the sites of a tail of a chain, or of what `new` makes.
 fn push_tail(
+    alloc: Global,
     known: &Known<'_>,
     head: &Expr,
     before: &[Tail<Boxed<Expr>>],
@@ -113,29 +151,51 @@ fn push_tail(
     out: &mut Vec<SiteInfo>,
 ) -> Result<(), OutOfMemory>
     requires { IsInText (ATail head.now before.now tail.now) }
-    ensures { OnOk result (out.new.items ≡ out.old.items ++ sites_of_tail (known_in known.now) holder head.now before.now tail.now) }
+    ensures { OnOk result (out.new.items ≡ out.old.items ++ calls.sites_of_tail (known_in known.now) holder head.now before.now tail.now) }
 {
     match tail {
         Tail::Member { dot: _, name: _ } => Ok(()),
-        Tail::Call(arguments) => {
-            let required = known.is_require_alone(head, before);
-            push_call(required, member_of(before), arguments, holder, out)
-        }
+        Tail::Index {
+            open: _,
+            value: _,
+            close: _,
+        } => Ok(()),
+        Tail::Call(arguments) => push_call(alloc, known, head, before, arguments, holder, out),
+        Tail::Template(template) => push_tagged(template, holder, out),
     }
 }
 
+// Adds those of a call, where a require has none.
 fn push_call(
-    required: bool,
-    member: Option<&Text>,
-    arguments: &Arguments<Boxed<Expr>>,
+    alloc: Global,
+    known: &Known<'_>,
+    head: &Expr,
+    before: &[Tail<Boxed<Expr>>],
+    arguments: &Bracket<Boxed<Expr>>,
     holder: u32,
     out: &mut Vec<SiteInfo>,
 ) -> Result<(), OutOfMemory>
-    requires { length (items_in arguments.now.items) < 4294967296 }
-    ensures { OnOk result (out.new.items ≡ out.old.items ++ arguments_sites holder required (option_map (λ t. t.now) member.entry) arguments.now.open.start (items_in arguments.now.items)) }
+    requires { length (elements arguments.now) < 4294967296 }
+    ensures { OnOk result (out.new.items ≡ out.old.items ++ calls.unrequired_sites holder (calls.is_required (known_in known.now) head.now before.now (elements arguments.now)) (calls.last_member before.now) arguments.now.open.start (elements arguments.now)) }
 {
-    let items = arguments.items.as_slice();
-    let start = arguments.open.start;
-    let is_required = is_required(required, items);
-    push_own_sites(is_required, holder, member, start, items.len(), out)
+    if known.is_required(alloc, head, before, arguments)? {
+        return Ok(());
+    }
+    let member = last_member(alloc, before)?;
+    let count = count_placed(arguments);
+    push_call_sites(holder, &member, arguments.open.start, count, out)
+}
+
+// Adds the site of a template behind a tag: its first argument is the strings, and its substitutions are
+// the others.
+fn push_tagged(
+    template: &Template<Boxed<Expr>>,
+    holder: u32,
+    out: &mut Vec<SiteInfo>,
+) -> Result<(), OutOfMemory>
+    requires { length template.now.parts + 1 < 4294967296 }
+    ensures { OnOk result (out.new.items ≡ out.old.items ++ calls.site_at holder template.now.head.start (length template.now.parts + 1) ∷ []) }
+{
+    let count = template.parts.as_slice().len() as u32;
+    push_site(holder, template.head.start, count + 1, out)
 }

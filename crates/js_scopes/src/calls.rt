@@ -1,92 +1,44 @@
 //! The sites of a call.
-ghost use Rattle.std.specs.Prelude.{◌<◌, ◌≡◌, ◌++◌, ◌&&◌, [], is_some, if◌then◌else◌, OnOk};
-ghost use Rattle.std.specs.Option.{option_map};
-ghost use Rattle.js_tree.specs.declared.tree.Expr.{out-Expr};
-ghost use Rattle.js_tree.specs.Parts.{items_in};
-ghost use Rattle.js_scopes.specs.Scopes as seen;
+ghost use Rattle.std.specs.Prelude.{◌≡◌, ◌++◌, ◌∷◌, [], OnOk};
+ghost use Rattle.js_scopes.specs.Calls as seen;
 
 use crate::site::SiteInfo;
 use jam_base::{OutOfMemory, Text};
-use js_tree::{Expr, Listed, Token, TokenClass};
-use sqlite_items::Boxed;
 
-/// Whether a call is one of `require` with a string, where what is called may be `require`.
-pub fn is_required(required: bool, items: &[Listed<Boxed<Expr>>]) -> bool
-    ensures { result ≡ (required && is_some (seen.first_string (items_in items.now))) }
-{
-    required && has_string(items)
-}
-
-// Whether the first of the arguments is a string.
-fn has_string(items: &[Listed<Boxed<Expr>>]) -> bool
-    ensures { result ≡ is_some (seen.first_string (items_in items.now)) }
-{
-    match items.first() {
-        None => false,
-        Some(listed) => is_string(listed.item.get()),
-    }
-}
-
-// Whether an expression is a string.
-fn is_string(value: &Expr) -> bool
-    ensures { result ≡ is_some (seen.string_in (out-Expr value.now)) }
-{
-    match value {
-        Expr::Literal(token) => is_string_token(token),
-        _ => false,
-    }
-}
-
-fn is_string_token(token: &Token) -> bool
-    ensures { result ≡ is_some (seen.string_of token.now) }
-{
-    match token.class {
-        TokenClass::Str => true,
-        _ => false,
-    }
-}
-
-/// Adds the sites of a call that is no require.
-pub(crate) fn push_own_sites(
-    is_required: bool,
+// Adds the sites of a call with so many arguments that have a place, whose callee is a member of this
+// name or none.
+pub(crate) fn push_call_sites(
     holder: u32,
-    member: Option<&Text>,
+    member: &Option<Text>,
     offset: u32,
-    count: usize,
+    count: u32,
     out: &mut Vec<SiteInfo>,
 ) -> Result<(), OutOfMemory>
-    requires { count < 4294967296 }
-    ensures { OnOk result (out.new.items ≡ out.old.items ++ (if is_required then [] else seen.call_sites holder (option_map (λ t. t.now) member.entry) offset count)) }
+    ensures { OnOk result (out.new.items ≡ out.old.items ++ seen.call_sites holder member.now offset count) }
 {
-    if is_required {
-        Ok(())
-    } else {
-        push_call_sites(holder, member, offset, count, out)
+    push_site(holder, offset, count, out)?;
+    match member {
+        None => Ok(()),
+        Some(name) => push_reflected(holder, name.as_str(), offset, count, out),
     }
 }
 
-// Adds the sites of a call with so many arguments, behind a member of this name or none.
-fn push_call_sites(
+// Adds a site with so many arguments that have a place.
+pub(crate) fn push_site(
     holder: u32,
-    member: Option<&Text>,
     offset: u32,
-    count: usize,
+    args: u32,
     out: &mut Vec<SiteInfo>,
 ) -> Result<(), OutOfMemory>
-    requires { count < 4294967296 }
-    ensures { OnOk result (out.new.items ≡ out.old.items ++ seen.call_sites holder (option_map (λ t. t.now) member.entry) offset count) }
+    ensures { OnOk result (out.new.items ≡ out.old.items ++ seen.site_at holder offset args ∷ []) }
 {
-    let args = count as u32;
     out.push(SiteInfo {
         offset,
         part: 0,
         holder,
         args,
     })?;
-    match member {
-        None => Ok(()),
-        Some(name) => push_reflected(holder, name.as_str(), offset, args, out),
-    }
+    Ok(())
 }
 
 // Adds the site of the call that a member of this name passes on.

@@ -1,18 +1,22 @@
 //! The functions of a module.
 ghost use Rattle.std.specs.Prelude.{◌≡◌, ◌<◌, ◌++◌, ◌∷◌, [], length, IfOk, OnOk};
-ghost use Rattle.std.specs.List.{flat_map};
+ghost use Rattle.std.specs.Option.{option_map};
 ghost use Rattle.std.specs.List.Sorted.{IsNonDecreasingBy};
 ghost use Rattle.js_scopes.specs.declared.function.FunctionInfo.{FunctionInfo as GhostInfo};
 ghost use Rattle.js_tree.specs.declared.tree.Function.{out-Function};
-ghost use Rattle.js_tree.specs.Parts.{ABody, node_of};
+ghost use Rattle.js_tree.specs.Parts.{ABody, AFunction};
 ghost use Rattle.js_tree.specs.Spells.{SpellsSome};
 ghost use Rattle.js_tree.specs.Tokens.{IsInText};
-ghost use Rattle.js_scopes.specs.Scopes.{functions_of, functions_in, own_functions, info_in, name_of};
+ghost use Rattle.js_scopes.specs.Functions.{info_in, start_in};
+ghost use Rattle.js_scopes.specs.Scopes.{functions_of};
 ghost use Rattle.js_scopes.specs.Scopes as seen;
 
-use crate::function_names::given_in;
+use crate::brackets::params_of;
+use crate::call_sites::start_of;
+use crate::function_names::{given_in, name_text};
+use crate::scope::own_name;
 use jam_base::{List, OutOfMemory, Ranked, Text, ascending};
-use js_tree::{Function, Gather, Node, Token, Tree, walk_tree};
+use js_tree::{Function, Gather, Node, Slot, Token, Tree, walk_tree};
 use std::alloc::Global;
 use std::cmp::Ordering;
 
@@ -65,39 +69,41 @@ pub(crate) fn inner_functions(alloc: Global, tree: &Tree) -> Result<Vec<Function
 {
     let mut inner = Vec::new(alloc);
     let body = Node::Body(tree.body.as_slice());
-    walk_tree(alloc, &GivenNames, body, "<anonymous>", &mut inner)?;
+    walk_tree(alloc, &GivenNames, body, None, &mut inner)?;
     ascending(alloc, inner)
 }
 
-// The functions in a node, by the name that is given to what stands directly in it.
+// The functions in a node, by the token that gives its name to what stands directly in it.
 struct GivenNames;
 
 impl<'t> Gather<'t> for GivenNames {
-    ghost use Rattle.std.specs.Prelude.{ℕ, List, Some};
+    ghost use Rattle.std.specs.Prelude.{Option, Some};
+    ghost use Rattle.std.specs.Option.{option_map};
+    ghost use Rattle.js_tree.specs.declared.token.Token.{Token as GhostToken};
     ghost use Rattle.js_scopes.specs.declared.function.FunctionInfo.{FunctionInfo as Info};
-    ghost use Rattle.js_scopes.specs.Scopes.{own_functions, given_in as name_given};
+    ghost use Rattle.js_scopes.specs.Functions.{own_functions, given_in as token_given};
 
-    type Around = &'t str;
+    type Around = Option<&'t Token>;
 
     type Item = FunctionInfo;
 
-    ghost Place = { List ℕ };
+    ghost Place = { Option GhostToken };
 
     ghost Given = { Info };
 
-    ghost place = { λ s. s.now };
+    ghost place = { λ o. option_map (λ t. t.now) o };
 
     ghost given = { λ f. f };
 
     ghost own = { λ g. own_functions };
 
-    ghost inside = { λ g n given. Some (name_given n given) };
+    ghost inside = { λ g n given. Some (token_given n given) };
 
     fn push_own(
         &self,
         alloc: Global,
         node: Node<'t>,
-        around: &'t str,
+        around: Option<&'t Token>,
         out: &mut Vec<FunctionInfo>,
     ) -> Result<(), OutOfMemory> {
         match node {
@@ -106,7 +112,7 @@ impl<'t> Gather<'t> for GivenNames {
         }
     }
 
-    fn inside(&self, node: Node<'t>, around: &'t str) -> Option<&'t str> {
+    fn inside(&self, node: Node<'t>, around: Option<&'t Token>) -> Option<Option<&'t Token>> {
         Some(given_in(node, around))
     }
 }
@@ -114,29 +120,25 @@ impl<'t> Gather<'t> for GivenNames {
 fn push_function(
     alloc: Global,
     function: &Function,
-    given: &str,
+    given: Option<&Token>,
     out: &mut Vec<FunctionInfo>,
 ) -> Result<(), OutOfMemory>
-    ensures { OnOk result (out.new.items ≡ out.old.items ++ info_in (out-Function function.now) given.now ∷ []) }
+    requires { IsInText (AFunction function.now) }
+    ensures { OnOk result (out.new.items ≡ out.old.items ++ info_in (out-Function function.now) (option_map (λ t. t.now) given.entry) ∷ []) }
 {
-    match function {
-        Function::Keyword { word, name, .. } => {
-            out.push(FunctionInfo {
-                start: word.start,
-                params: 0,
-                name: name_text(alloc, name, given)?,
-            })?;
-            Ok(())
-        }
-    }
+    let params = params_of(alloc, function)?;
+    let name = name_text(alloc, own_name(function), given)?;
+    out.push(FunctionInfo {
+        start: start_of(function),
+        params: count_slots(params.as_slice()),
+        name,
+    })?;
+    Ok(())
 }
 
-// The name of a function with this own name and this given one.
-fn name_text(alloc: Global, name: &Option<Token>, given: &str) -> Result<Text, OutOfMemory>
-    ensures { IfOk result (λ made. made ≡ name_of name.now given.now) }
+fn count_slots(slots: &[&Slot]) -> u32
+    requires { length slots.now < 4294967296 }
+    ensures { result ≡ length slots.now }
 {
-    match name {
-        None => Text::of(alloc, given),
-        Some(token) => token.text.copy(alloc),
-    }
+    slots.len() as u32
 }

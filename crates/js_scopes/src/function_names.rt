@@ -1,81 +1,143 @@
 //! The names that functions take from what they are assigned to.
-ghost use Rattle.std.specs.Prelude.{◌≡◌};
-ghost use Rattle.std.specs.Option.{option_map, unwrap_or};
+ghost use Rattle.std.specs.Prelude.{◌≡◌, IfOk};
+ghost use Rattle.std.specs.Option.{option_map};
 ghost use Rattle.js_tree.specs.Parts.{node_of};
 ghost use Rattle.js_tree.specs.declared.tree.Expr.{out-Expr};
-ghost use Rattle.js_scopes.specs.Scopes.{anonymous, gives, chain_gives, given_in_expr, last_member, member_in};
-ghost use Rattle.js_scopes.specs.Scopes as seen;
+ghost use Rattle.js_scopes.specs.Functions as names;
 
-use jam_base::Text;
-use js_tree::{Expr, Node, Pattern, Tail};
+use crate::literals::key_in;
+use jam_base::{OutOfMemory, Text};
+use js_tree::{Expr, Node, Pattern, Tail, Token, TokenClass, string_value};
 use sqlite_items::Boxed;
+use std::alloc::Global;
 
-// The name that is given to what stands directly in a node that is given this name.
-pub(crate) fn given_in<'s>(node: Node<'s>, given: &'s str) -> &'s str
-    ensures { result.now ≡ seen.given_in (node_of node.entry) given.now }
+// The token that gives its name to what stands directly in a node that is given this token.
+pub(crate) fn given_in<'s>(node: Node<'s>, given: Option<&'s Token>) -> Option<&'s Token>
+    ensures { option_map (λ t. t.now) result ≡ names.given_in (node_of node.entry) (option_map (λ t. t.now) given.entry) }
 {
     match node {
         Node::Expr(value) => given_in_expr(value, given),
-        Node::Slot(slot) => target_name(&slot.target),
-        _ => "<anonymous>",
+        Node::Slot(slot) => target_token(&slot.target),
+        _ => None,
     }
 }
 
-fn given_in_expr<'s>(value: &'s Expr, given: &'s str) -> &'s str
-    ensures { result.now ≡ given_in_expr (out-Expr value.now) given.now }
+fn given_in_expr<'s>(value: &'s Expr, given: Option<&'s Token>) -> Option<&'s Token>
+    ensures { option_map (λ t. t.now) result ≡ names.given_in_expr (out-Expr value.now) (option_map (λ t. t.now) given.entry) }
 {
     match value {
-        Expr::Assign { target, .. } => target_name(target.get()),
-        Expr::Fun { .. } => given,
-        _ => "<anonymous>",
+        Expr::Assign {
+            target,
+            op,
+            value: _,
+        } => assigned_token(op, target.get()),
+        Expr::Fun { function: _ } => given,
+        _ => None,
     }
 }
 
-// The name that a target gives to a function that is directly assigned to it.
-fn target_name(target: &Pattern) -> &str
-    ensures { result.now ≡ gives target.now }
+// What a target gives with this operator.
+fn assigned_token<'s>(op: &Token, target: &'s Pattern) -> Option<&'s Token>
+    ensures { option_map (λ t. t.now) result ≡ names.assigned_token op.now (names.gives target.now) }
+{
+    if is_assignment(op) {
+        target_token(target)
+    } else {
+        None
+    }
+}
+
+/// The operator is `=`.
+pub fn is_assignment(op: &Token) -> bool
+    ensures { result ≡ names.is_assignment op.now }
+{
+    op.text.as_str() == "="
+}
+
+// The token from which a function takes its name that is directly assigned to the target.
+fn target_token(target: &Pattern) -> Option<&Token>
+    ensures { option_map (λ t. t.now) result ≡ names.gives target.now }
 {
     match target {
-        Pattern::Name(token) => token.text.as_str(),
-        Pattern::Member { chain } => chain_name(chain.get()),
+        Pattern::Name(token) => Some(token),
+        Pattern::Member { chain } => chain_token(chain.get()),
+        _ => None,
     }
 }
 
-// The name that an expression gives as a target: that of its last member.
-fn chain_name(chain: &Expr) -> &str
-    ensures { result.now ≡ chain_gives (out-Expr chain.now) }
+fn chain_token(chain: &Expr) -> Option<&Token>
+    ensures { option_map (λ t. t.now) result ≡ names.chain_gives (out-Expr chain.now) }
 {
     match chain {
-        Expr::Chain { head: _, tails } => last_name(tails.as_slice()),
-        _ => "<anonymous>",
+        Expr::Chain { head: _, tails } => last_token(tails.as_slice()),
+        _ => None,
     }
 }
 
-// The name that tails give.
-fn last_name(tails: &[Tail<Boxed<Expr>>]) -> &str
-    ensures { result.now ≡ unwrap_or (last_member tails.now) anonymous }
-{
-    match member_of(tails) {
-        Some(name) => name.as_str(),
-        None => "<anonymous>",
-    }
-}
-
-/// The name of the member that a chain with these tails ends in.
-pub fn member_of(tails: &[Tail<Boxed<Expr>>]) -> Option<&Text>
-    ensures { option_map (λ t. t.now) result ≡ last_member tails.now }
+// The token that names the member that a chain with these tails ends in.
+fn last_token(tails: &[Tail<Boxed<Expr>>]) -> Option<&Token>
+    ensures { option_map (λ t. t.now) result ≡ names.last_token tails.now }
 {
     match tails.last() {
         None => None,
-        Some(tail) => tail_name(tail),
+        Some(tail) => tail_token(tail),
     }
 }
 
-fn tail_name(tail: &Tail<Boxed<Expr>>) -> Option<&Text>
-    ensures { option_map (λ t. t.now) result ≡ member_in tail.now }
+fn tail_token(tail: &Tail<Boxed<Expr>>) -> Option<&Token>
+    ensures { option_map (λ t. t.now) result ≡ names.tail_token tail.now }
 {
     match tail {
-        Tail::Member { dot: _, name } => Some(&name.text),
+        Tail::Member { dot: _, name } => Some(name),
+        Tail::Index {
+            open: _,
+            value,
+            close: _,
+        } => key_in(value.get()),
         Tail::Call(_) => None,
+        Tail::Template(_) => None,
+    }
+}
+
+// The name of a function with this own name that is given this token.
+pub(crate) fn name_text(
+    alloc: Global,
+    name: Option<&Token>,
+    given: Option<&Token>,
+) -> Result<Text, OutOfMemory>
+    ensures { IfOk result (λ made. made ≡ names.name_of (option_map (λ t. t.now) name.entry) (option_map (λ t. t.now) given.entry)) }
+{
+    match name {
+        None => name_given(alloc, given),
+        Some(token) => token.text.copy(alloc),
+    }
+}
+
+fn name_given(alloc: Global, given: Option<&Token>) -> Result<Text, OutOfMemory>
+    ensures { IfOk result (λ made. made ≡ names.name_given (option_map (λ t. t.now) given.entry)) }
+{
+    match given {
+        None => Text::of(alloc, "<anonymous>"),
+        Some(token) => text_given(alloc, token),
+    }
+}
+
+// The name that a token gives.
+fn text_given(alloc: Global, token: &Token) -> Result<Text, OutOfMemory>
+    ensures { IfOk result (λ made. made ≡ names.text_given token.now) }
+{
+    match token.class {
+        TokenClass::Str => value_given(alloc, token),
+        _ => token.text.copy(alloc),
+    }
+}
+
+// The name that a string gives: its value, where it has one.
+fn value_given(alloc: Global, token: &Token) -> Result<Text, OutOfMemory>
+    ensures { IfOk result (λ made. made ≡ names.value_given token.now) }
+{
+    match string_value(alloc, token)? {
+        Some(value) => Ok(value),
+        None => Text::of(alloc, "<anonymous>"),
     }
 }

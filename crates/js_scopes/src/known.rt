@@ -1,19 +1,23 @@
 //! What is known of a module.
-ghost use Rattle.std.specs.Prelude.{◌≡◌, ◌<◌, length};
+ghost use Rattle.std.specs.Prelude.{◌≡◌, ◌<◌, length, IfOk};
 ghost use Rattle.std.specs.List.Sorted.{IsNonDecreasingBy};
 ghost use Rattle.js_scopes.specs.declared.function.FunctionInfo.{FunctionInfo as GhostInfo};
 ghost use Rattle.js_tree.specs.declared.tree.Expr.{out-Expr};
 ghost use Rattle.js_tree.specs.Parts.{node_of};
 ghost use Rattle.js_scopes.specs.AtHand.{known_in};
-ghost use Rattle.js_scopes.specs.Scopes as seen;
+ghost use Rattle.js_scopes.specs.Brackets.{elements};
+ghost use Rattle.js_scopes.specs.Calls as seen;
 
 use crate::binding::{Binding, WrapperName};
 use crate::bindings::Bindings;
 use crate::call_sites::start_of;
 use crate::function::FunctionInfo;
 use crate::numbers::function_number;
-use js_tree::{Expr, Node, Tail, Token};
+use crate::required::first_string;
+use jam_base::OutOfMemory;
+use js_tree::{Bracket, Expr, Node, Tail, Token};
 use sqlite_items::Boxed;
+use std::alloc::Global;
 use std::marker::Model;
 
 /// What the names of a module mean, and its functions but its body.
@@ -92,7 +96,7 @@ impl<'m> Known<'m> {
         }
     }
 
-    /// Whether a chain with this primary and these tails is directly the wrapper's `require`.
+    /// Whether a chain with this head and these tails is directly the wrapper's `require`.
     pub fn is_require_alone(&self, head: &Expr, tails: &[Tail<Boxed<Expr>>]) -> bool
         ensures { result ≡ seen.is_require_alone (known_in self.now) head.now tails.now }
     {
@@ -100,6 +104,23 @@ impl<'m> Known<'m> {
             [] => self.names_require(head),
             [_, ..] => false,
         }
+    }
+
+    /// Whether a call with these arguments behind this head and these tails is a require.
+    pub fn is_required(
+        &self,
+        alloc: Global,
+        head: &Expr,
+        before: &[Tail<Boxed<Expr>>],
+        arguments: &Bracket<Boxed<Expr>>,
+    ) -> Result<bool, OutOfMemory>
+        ensures { IfOk result (λ b. b ≡ seen.is_required (known_in self.now) head.now before.now (elements arguments.now)) }
+    {
+        if !self.is_require_alone(head, before) {
+            return Ok(false);
+        }
+        let spec = first_string(alloc, arguments)?;
+        Ok(spec.is_some())
     }
 }
 

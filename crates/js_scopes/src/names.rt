@@ -6,6 +6,7 @@ ghost use Rattle.js_tree.specs.declared.tree.Expr.{out-Expr};
 ghost use Rattle.js_tree.specs.declared.tree.Pattern.{out-Pattern};
 ghost use Rattle.js_tree.specs.Parts.{node_of};
 ghost use Rattle.js_tree.specs.Tokens.{IsInText};
+ghost use Rattle.js_scopes.specs.Brackets.{listed};
 ghost use Rattle.js_scopes.specs.Names as names;
 ghost use Rattle.js_scopes.specs.Names.{Numbering};
 ghost use Rattle.js_scopes.specs.Scopes as seen;
@@ -75,7 +76,7 @@ fn push_named(
     out: &mut Vec<BoundName>,
 ) -> Result<(), OutOfMemory>
     requires { AreReady numbers }
-    ensures { (n : Numbering) → IsNumberedBy n numbers.entry → OnOk result (out.new.items ≡ out.old.items ++ map (seen.bound_name n (around_of around.entry)) (seen.name_list (option_map (λ t. t.now) name.entry))) }
+    ensures { (n : Numbering) → IsNumberedBy n numbers.entry → OnOk result (out.new.items ≡ out.old.items ++ map (seen.bound_name n (around_of around.entry)) (listed (option_map (λ t. t.now) name.entry))) }
 {
     match name {
         None => Ok(()),
@@ -164,7 +165,7 @@ fn push_own(
 }
 
 fn token_in_expr(value: &Expr) -> Option<&Token>
-    ensures { seen.name_list (option_map (λ t. t.now) result) ≡ seen.tokens_in_expr (out-Expr value.now) }
+    ensures { listed (option_map (λ t. t.now) result) ≡ seen.tokens_in_expr (out-Expr value.now) }
 {
     match value {
         Expr::Name(token) => Some(token),
@@ -174,7 +175,7 @@ fn token_in_expr(value: &Expr) -> Option<&Token>
 }
 
 fn token_in_pattern(pattern: &Pattern) -> Option<&Token>
-    ensures { seen.name_list (option_map (λ t. t.now) result) ≡ seen.tokens_in_pattern (out-Pattern pattern.now) }
+    ensures { listed (option_map (λ t. t.now) result) ≡ seen.tokens_in_pattern (out-Pattern pattern.now) }
 {
     match pattern {
         Pattern::Name(token) => Some(token),

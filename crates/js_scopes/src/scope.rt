@@ -1,13 +1,15 @@
 //! The scopes of a module, and what a name means in them.
-ghost use Rattle.std.specs.Prelude.{◌≡◌, ◌++◌, ◌∷◌, Bool, false, Some, None, map, if◌then◌else◌, IfOk, OnOk};
+ghost use Rattle.std.specs.Prelude.{◌≡◌, ◌++◌, ◌∷◌, Bool, false, Some, None, map, All, if◌then◌else◌, IfOk, OnOk};
 ghost use Rattle.std.specs.List.{flat_map};
 ghost use Rattle.std.specs.Option.{option_map};
 ghost use Rattle.js_tree.specs.declared.tree.Expr.{out-Expr};
 ghost use Rattle.js_tree.specs.declared.tree.Function.{out-Function};
 ghost use Rattle.js_tree.specs.declared.tree.Pattern.{out-Pattern};
 ghost use Rattle.js_tree.specs.declared.tree.Stmt.{out-Stmt};
-ghost use Rattle.js_tree.specs.Parts.{ABody, AFunction, node_of};
+ghost use Rattle.js_tree.specs.Parts.{AFunction, node_of};
 ghost use Rattle.js_tree.specs.Tokens.{IsInText};
+ghost use Rattle.js_scopes.specs.Brackets.{listed};
+ghost use Rattle.js_scopes.specs.Functions as functions;
 ghost use Rattle.js_scopes.specs.Names as names;
 ghost use Rattle.js_scopes.specs.Scopes as seen;
 ghost use Rattle.js_scopes.specs.Walks.{scopes_of};
@@ -15,39 +17,37 @@ ghost use Rattle.js_scopes.specs.Walks.{scopes_of};
 use crate::binding::{Binding, WrapperName};
 use crate::declaration::Scope;
 use jam_base::OutOfMemory;
-use js_tree::{Expr, Function, Gather, Node, Pattern, Stmt, Token, walk_tree};
+use js_tree::{Expr, Function, Gather, Node, Pattern, Stmt, Token, push_parts, walk_tree};
 use std::alloc::Global;
 
-// The scope of statements in the function around them, which is the module's body or not.
-pub(crate) fn body_scope<'t>(
+// The scope around the parts of a node, which is the module's body or not.
+pub(crate) fn scope_of<'t>(
     alloc: Global,
-    body: &'t [Stmt],
+    node: Node<'t>,
     in_module: bool,
 ) -> Result<Scope<'t>, OutOfMemory>
-    requires { IsInText (ABody body.now) }
-    ensures { IfOk result (λ scope. scope ≡ seen.body_scope in_module body.now) }
+    requires { IsInText (node_of node) }
+    ensures { IfOk result (λ scope. scope ≡ seen.scope_of in_module (node_of node.entry)) }
 {
-    Scope::of(alloc, declared_in(alloc, body, in_module)?)
+    let mut parts = Vec::new(alloc);
+    push_parts(node, &mut parts)?;
+    Scope::of(alloc, declared_in(alloc, parts.as_slice(), in_module)?)
 }
 
-// What the statements declare there.
+// What these nodes declare there.
 fn declared_in<'t>(
     alloc: Global,
-    body: &'t [Stmt],
+    nodes: &[Node<'t>],
     in_module: bool,
 ) -> Result<Vec<&'t Token>, OutOfMemory>
-    requires { IsInText (ABody body.now) }
-    ensures { IfOk result (λ scope. map (λ t. t.now) scope.items ≡ seen.body_scope in_module body.now) }
+    requires { All (λ x. IsInText (node_of x)) nodes.now }
+    ensures { IfOk result (λ tokens. map (λ t. t.now) tokens.items ≡ flat_map (λ x. seen.declared_in (node_of x) in_module) nodes.now) }
 {
-    let mut scope = Vec::new(alloc);
-    walk_tree(
-        alloc,
-        &Declarations,
-        Node::Body(body),
-        in_module,
-        &mut scope,
-    )?;
-    Ok(scope)
+    let mut tokens = Vec::new(alloc);
+    for node in nodes {
+        walk_tree(alloc, &Declarations, *node, in_module, &mut tokens)?;
+    }
+    Ok(tokens)
 }
 
 // The names that are declared in the scope of the function around a node, which is the module's body or
@@ -100,7 +100,7 @@ impl<'t> Gather<'t> for Declarations {
 
 // The name that a declaration declares.
 pub(crate) fn declared_by_stmt(statement: &Stmt) -> Option<&Token>
-    ensures { seen.name_list (option_map (λ t. t.now) result) ≡ seen.declared_by_stmt (out-Stmt statement.now) }
+    ensures { listed (option_map (λ t. t.now) result) ≡ seen.declared_by_stmt (out-Stmt statement.now) }
 {
     match statement {
         Stmt::Fun { function } => own_name(function.get()),
@@ -110,7 +110,7 @@ pub(crate) fn declared_by_stmt(statement: &Stmt) -> Option<&Token>
 
 // The name that a pattern declares.
 fn declared_by_pattern(pattern: &Pattern, in_module: bool) -> Option<&Token>
-    ensures { seen.name_list (option_map (λ t. t.now) result) ≡ seen.declared_by_pattern (out-Pattern pattern.now) in_module }
+    ensures { listed (option_map (λ t. t.now) result) ≡ seen.declared_by_pattern (out-Pattern pattern.now) in_module }
 {
     match pattern {
         Pattern::Name(token) => kept(token, in_module),
@@ -120,7 +120,7 @@ fn declared_by_pattern(pattern: &Pattern, in_module: bool) -> Option<&Token>
 
 // The name that a `var` declares: in the module's body those of the wrapper stay its own.
 fn kept(token: &Token, in_module: bool) -> Option<&Token>
-    ensures { seen.name_list (option_map (λ t. t.now) result) ≡ seen.declared_by_var in_module token.now }
+    ensures { listed (option_map (λ t. t.now) result) ≡ seen.declared_by_var in_module token.now }
 {
     if in_module {
         match wrapper_name(token.text.as_str()) {
@@ -134,7 +134,7 @@ fn kept(token: &Token, in_module: bool) -> Option<&Token>
 
 // Adds the name, where there is one.
 fn push_token<'t>(name: Option<&'t Token>, scope: &mut Vec<&'t Token>) -> Result<(), OutOfMemory>
-    ensures { OnOk result (map (λ t. t.now) scope.new.items ≡ map (λ t. t.now) scope.old.items ++ seen.name_list (option_map (λ t. t.now) name.entry)) }
+    ensures { OnOk result (map (λ t. t.now) scope.new.items ≡ map (λ t. t.now) scope.old.items ++ listed (option_map (λ t. t.now) name.entry)) }
 {
     if let Some(name) = name {
         scope.push(name)?;
@@ -144,7 +144,7 @@ fn push_token<'t>(name: Option<&'t Token>, scope: &mut Vec<&'t Token>) -> Result
 
 /// The token of the name that a function writes as its own.
 pub fn own_name(function: &Function) -> Option<&Token>
-    ensures { option_map (λ t. t.now) result ≡ seen.name_in (out-Function function.now) }
+    ensures { option_map (λ t. t.now) result ≡ functions.name_in (out-Function function.now) }
 {
     match function {
         Function::Keyword {
@@ -182,19 +182,15 @@ fn scope_in_expr(alloc: Global, value: &Expr) -> Result<Option<Scope<'_>>, OutOf
 
 fn scope_in_function(alloc: Global, function: &Function) -> Result<Option<Scope<'_>>, OutOfMemory>
     requires { IsInText (AFunction function.now) }
-    ensures { IfOk result (λ scope. scope ≡ Some (seen.body_scope false (seen.body_in (out-Function function.now)))) }
+    ensures { IfOk result (λ scope. scope ≡ Some (seen.scope_of false (AFunction function.now))) }
 {
-    match function {
-        Function::Keyword { body, .. } => {
-            let scope = body_scope(alloc, body.body.as_slice(), false)?;
-            Ok(Some(scope))
-        }
-    }
+    let scope = scope_of(alloc, Node::Function(function), false)?;
+    Ok(Some(scope))
 }
 
 // The scope of the own name of a function that is a value.
 fn own_scope(alloc: Global, function: &Function) -> Result<Scope<'_>, OutOfMemory>
-    ensures { IfOk result (λ scope. scope ≡ seen.own_name function.now) }
+    ensures { IfOk result (λ scope. scope ≡ functions.own_name function.now) }
 {
     let mut tokens = Vec::new(alloc);
     push_token(own_name(function), &mut tokens)?;

@@ -1,15 +1,15 @@
 -- Tests of the token that stands next, and refusals that are handed on.
-use Rattle.std.proofs.Common.{◌≡◌, ⊎_elim, ◌⊎◌, Bool, true, false, List, ◌∷◌, sym, ap, ◌∙◌, subst, true≢false, Result, Ok, Err}
+use Rattle.std.proofs.Common.{◌≡◌, ⊎_elim, ◌⊎◌, Bool, true, false, List, sym, ap, ◌∙◌, subst, true≢false, Result, Ok, Err}
 use Rattle.std.specs.Result.{IsErrAnd}
 use Rattle.js_tree.specs.Lexical.{Next}
 use Rattle.js_tree.specs.Lexing.{Place}
-use Rattle.js_tree.specs.Pieces.{Piece, Tok, kind}
+use Rattle.js_tree.specs.Pieces.{kind}
 use Rattle.js_tree.specs.declared.token.Token.{Token}
 use Rattle.js_tree.specs.declared.token_kind.TokenKind.{TokenKind}
 use Rattle.js_tree.specs.declared.token_kind.TokenKind.TheVariants as kinds
 use Rattle.js_tokens.proofs.AheadLemmas.{twin, one_next}
 use Rattle.js_tokens.specs.Ahead.{Blind, IsTwin, IsNextKind}
-use Rattle.js_tokens.specs.Pieces.{Gives, Begins, Stops}
+use Rattle.js_tokens.specs.Pieces.{Gives, Begins}
 use Rattle.js_tokens.specs.declared.fault.TokenFault.{TokenFault}
 use Rattle.js_tokens.specs.declared.fault.TokenFault.TheVariants as fault
 use Rattle.js_tokens.specs.declared.goal.Goal.TheVariants as goal
@@ -40,11 +40,7 @@ same_test test b p q r t u x y =
 pub differ : (c d : TokenKind → Bool) → Blind d → (p : Place) → ((k : TokenKind) → c k ≡ true → d k ≡ false) → Begins c p → Begins d p → ⊥
 differ c d b p apart x y = true≢false (sym y.3 ∙ sym (same_test d b p x.1 y.1 x.0 y.0 x.2 y.2) ∙ apart (kind x.0) x.3)
 
--- before a token that fails the test
-pub stops_at : (c : TokenKind → Bool) → Blind c → (t : Token) (test : TokenKind → Bool) (rest : List Piece) → ((k : TokenKind) → test k ≡ true → c k ≡ false) → Stops c (Tok t test ∷ rest)
-stops_at c b t test rest unlike p r u q next = same_test c b p q r.0 u t next r.1 ∙ unlike (kind t) r.2
-
-handed_on : {X Y : Type 0} (x : X) (y : Y) (P Q : Type 0) (e : TokenFault) → Gives {X = X} (Err e) x P → Gives {X = Y} (Err e) y Q
+pub handed_on : {X Y : Type 0} (x : X) (y : Y) (P Q : Type 0) (e : TokenFault) → Gives {X = X} (Err e) x P → Gives {X = Y} (Err e) y Q
 handed_on x y P Q (fault.Unexpected at) h = h
 handed_on x y P Q fault.OutOfMemory h = tt
 

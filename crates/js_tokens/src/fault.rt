@@ -1,5 +1,6 @@
 //! Why no token was read.
 use jam_base::OutOfMemory;
+use std::alloc::AllocError;
 use thiserror::Error;
 
 /// What doesn't close.
@@ -77,6 +78,17 @@ impl From<OutOfMemory> for TokenFault {
     ghost from_gives = { λ _ e. e ≡ fault.OutOfMemory };
 
     fn from(_: OutOfMemory) -> TokenFault {
+        TokenFault::OutOfMemory
+    }
+}
+
+impl From<AllocError> for TokenFault {
+    ghost use Rattle.std.specs.Prelude.{◌≡◌};
+    ghost use Rattle.js_tokens.specs.declared.fault.TokenFault.TheVariants as fault;
+
+    ghost from_gives = { λ _ e. e ≡ fault.OutOfMemory };
+
+    fn from(_: AllocError) -> TokenFault {
         TokenFault::OutOfMemory
     }
 }

@@ -1,87 +1,28 @@
 -- Each part is lower than its node, and what is made of a node is made from what is made of its parts.
-use Rattle.std.proofs.Common.{◌≡◌, ℕ, zero, suc, ◌+◌, ◌-◌, ◌<◌, ◌≤◌, max, List, [], ◌∷◌, ◌++◌, map, sum, length, take, drop, get_or, refl, sym, ap, ◌∙◌, append-nil, add-one, arith, Option, Some, None}
-use Rattle.std.specs.List.{flat_map}
-use Rattle.std.proofs.Math.Seq.{drop-cons}
-use Rattle.std.proofs.lemmas.List.{take_more}
+use Rattle.std.proofs.Common.{◌≡◌, ℕ, zero, suc, ◌+◌, ◌-◌, ◌<◌, ◌≤◌, max, List, [], ◌∷◌, ◌++◌, map, sum, refl, sym, ap, ◌∙◌, append-nil, arith, Option, Some, None}
+use Rattle.std.specs.List.{AllByRecursion, flat_map}
 use Rattle.std.proofs.lemmas.List.Folds.{flat_map-map}
+use Rattle.js_tree.specs.declared.lists.Tail.{Tail}
 use Rattle.js_tree.specs.declared.tree.Expr.{Expr, out-Expr, fold_out-Expr}
-use Rattle.js_tree.specs.declared.tree.Expr.TheOpen.{Expr-F, Function-F, Pattern-F, Stmt-F}
 use Rattle.js_tree.specs.declared.tree.Function.{Function, out-Function, fold_out-Function}
-use Rattle.js_tree.specs.declared.tree.Init.{Init}
-use Rattle.js_tree.specs.declared.tree.Listed.{Listed}
 use Rattle.js_tree.specs.declared.tree.Pattern.{Pattern, out-Pattern, fold_out-Pattern}
 use Rattle.js_tree.specs.declared.tree.Slot.{Slot, out-Slot, fold_out-Slot}
 use Rattle.js_tree.specs.declared.tree.Stmt.{Stmt, out-Stmt, fold_out-Stmt}
-use Rattle.js_tree.specs.declared.tree.Tail.{Tail}
-use Rattle.js_tree.specs.declared.tree.Tail.TheVariants as tail
-use Rattle.js_tree.specs.declared.tree.Stmt.TheVariants as statement
-use Rattle.js_tree.specs.declared.token.Token.{Token}
-use Rattle.js_tree.specs.Folds.{Views, ExprLayer, FunctionLayer, PatternLayer, SlotLayer, StmtLayer, seen_expr, seen_function, seen_pattern, seen_slot, seen_stmt}
+use Rattle.js_tree.specs.Folds.{fold_expr, fold_function, fold_pattern, fold_stmt, fold_slot}
+use Rattle.js_tree.specs.Parts.{Node, AnExpr, AFunction, APattern, AStmt, ASlot, ATail, ABody, nodes, tails_behind, parts, greatest, heights, above_expr, above_stmt, height, folded_to, folded, count, unless_passed, gathered}
 use Rattle.js_tree.specs.Spelling.{tallest_of}
-use Rattle.js_tree.specs.Parts.{Node, AnExpr, AFunction, APattern, AStmt, ASlot, ATail, ABody, as_nodes, items_in, tail_parts, tails_behind, in_expr, in_function, in_pattern, in_slot, in_stmt, expr_parts, parts, heights, height, height_over, folded_to, folded, count, unless_passed, gathered}
-use Rattle.js_tree.proofs.Folds.{map_listed}
+use Rattle.js_tree.specs.Spelling.Expressions.{expr_row}
+use Rattle.js_tree.specs.Spelling.Functions.{function_row}
+use Rattle.js_tree.specs.Spelling.Patterns.{pattern_row, slot_row}
+use Rattle.js_tree.specs.Spelling.Rows.{Writer, each_of, tail_row}
+use Rattle.js_tree.specs.Spelling.Nodes.{unmarked}
+use Rattle.js_tree.specs.Spelling.Statements.{stmt_row}
+use Rattle.js_tree.proofs.RowLemmas.{over, tails_map, expr_over, function_over, pattern_over, stmt_over, slot_over}
+use Rattle.js_tree.proofs.RowPairs.{Keeps, expr_keeps, function_keeps, pattern_keeps, stmt_keeps, slot_keeps, tail_keeps, body_keeps}
 
 pub map_again : {A B C : Type 0} (g : B → C) (f : A → B) (xs : List A) → map (λ x. g (f x)) xs ≡ map g (map f xs)
 map_again g f [] = refl
 map_again g f (x ∷ xs) = ap (λ ys. g (f x) ∷ ys) (map_again g f xs)
-
-pub map_both : {A B : Type 0} (f : A → B) (xs ys : List A) → map f (xs ++ ys) ≡ map f xs ++ map f ys
-map_both f [] ys = refl
-map_both f (x ∷ xs) ys = ap (λ zs. f x ∷ zs) (map_both f xs ys)
-
--- WHAT IS SEEN OF THE NODES IN A LAYER
-
--- the nodes as they are seen
-abbrev views : {A : Type 0} → (Node → A) → Views A
-views see = record { expr = λ x. see (AnExpr x); function = λ x. see (AFunction x); pattern = λ x. see (APattern x); stmt = λ x. see (AStmt x); slot = λ x. see (ASlot x) }
-
-pub items_seen : {X A : Type 0} (f : X → A) (xs : List (Listed X)) → items_in (map (map_listed f) xs) ≡ map f (items_in xs)
-items_seen f [] = refl
-items_seen f (x ∷ xs) = ap (λ ys. f x.item ∷ ys) (items_seen f xs)
-
-abbrev tails_in : {A : Type 0} → Expr-F A A A A A → List (Tail A)
-tails_in (Expr-F.Chain head tails) = tails
-tails_in _ = []
-
-module _ {A : Type 0} (see : Node → A) where
-  abbrev v : Views A
-  v = views see
-
-  abbrev see_expr : Expr → A
-  see_expr x = see (AnExpr x)
-
-  tails_seen : (head : Expr) (tails : List (Tail Expr)) → flat_map tail_parts (tails_in (seen_expr v (Expr-F.Chain head tails))) ≡ map see_expr (flat_map tail_parts tails)
-  tails_seen head [] = refl
-  tails_seen head (tail.Member dot name ∷ xs) = tails_seen head xs
-  tails_seen head (tail.Call a ∷ xs) = (λ i. items_seen see_expr a.items i ++ tails_seen head xs i) ∙ sym (map_both see_expr (items_in a.items) (flat_map tail_parts xs))
-
-module _ {A : Type 0} (see : Node → A) where
-  abbrev w : Views A
-  w = views see
-
-  init_seen : (target : Pattern) (init : Option (Init Expr)) → in_slot (seen_slot w (record { target = target; init = init })) ≡ map see (in_slot (seen_slot as_nodes (record { target = target; init = init })))
-  init_seen target None = refl
-  init_seen target (Some init) = refl
-
-  expr_seen : (x : ExprLayer) → in_expr (seen_expr w x) ≡ map see (in_expr (seen_expr as_nodes x))
-  expr_seen (Expr-F.Chain head tails) =
-      ap (λ xs. see (AnExpr head) ∷ xs) (tails_seen see head tails ∙ map_again see AnExpr (flat_map tail_parts tails) ∙ ap (map see) (sym (tails_seen (λ n. n) head tails)))
-  expr_seen _ = refl
-
-  function_seen : (x : FunctionLayer) → in_function (seen_function w x) ≡ map see (in_function (seen_function as_nodes x))
-  function_seen (Function-F.Keyword word name params body) = map_again see AStmt body.body
-
-  pattern_seen : (x : PatternLayer) → in_pattern (seen_pattern w x) ≡ map see (in_pattern (seen_pattern as_nodes x))
-  pattern_seen (Pattern-F.Member chain) = refl
-  pattern_seen _ = refl
-
-  stmt_seen : (x : StmtLayer) → in_stmt (seen_stmt w x) ≡ map see (in_stmt (seen_stmt as_nodes x))
-  stmt_seen (Stmt-F.Vars word decls semi) =
-      items_seen (λ x. see (ASlot x)) decls ∙ map_again see ASlot (items_in decls) ∙ ap (map see) (sym (items_seen ASlot decls))
-  stmt_seen _ = refl
-
-  slot_seen : (x : SlotLayer) → in_slot (seen_slot w x) ≡ map see (in_slot (seen_slot as_nodes x))
-  slot_seen x = init_seen x.target x.init
 
 -- HEIGHTS
 
@@ -89,78 +30,155 @@ module _ {A : Type 0} (see : Node → A) where
 abbrev pub highest : List Node → ℕ
 highest ns = tallest_of height ns
 
-tallest-map : {X Y : Type 0} (f : Y → ℕ) (g : X → Y) (xs : List X) → tallest_of f (map g xs) ≡ tallest_of (λ x. f (g x)) xs
-tallest-map f g [] = refl
-tallest-map f g (x ∷ xs) = ap (max (f (g x))) (tallest-map f g xs)
+-- nothing is asked of nodes
+abbrev pub Any : Node → Type 0
+Any n = Unit {0}
 
-over : (hs : List ℕ) (ns : List Node) → hs ≡ map height ns → height_over hs ≡ suc (suc (highest ns))
-over hs ns e = ap height_over e ∙ ap (λ n. suc (suc n)) (tallest-map (λ h. h) height ns)
+pub all_any : (ns : List Node) → AllByRecursion Any ns
+all_any [] = tt
+all_any (n ∷ ns) = (tt, all_any ns)
 
--- a node is two higher than the highest node in its layer
-pub expr_high : (x : Expr) → height (AnExpr x) ≡ suc (suc (highest (in_expr (seen_expr as_nodes (out-Expr x)))))
+is_expr : (x : Expr) → height (AnExpr x) ≡ fold_expr heights x
 unfolding height
-expr_high x = fold_out-Expr ℕ ℕ ℕ ℕ ℕ heights.expr heights.function heights.pattern heights.stmt heights.slot x ∙ over _ (in_expr (seen_expr as_nodes (out-Expr x))) (expr_seen height (out-Expr x))
+is_expr x = refl
 
-function_high : (x : Function) → height (AFunction x) ≡ suc (suc (highest (parts (AFunction x))))
+is_function : (x : Function) → height (AFunction x) ≡ fold_function heights x
 unfolding height
-function_high x = fold_out-Function ℕ ℕ ℕ ℕ ℕ heights.expr heights.function heights.pattern heights.stmt heights.slot x ∙ over _ (parts (AFunction x)) (function_seen height (out-Function x))
+is_function x = refl
 
-pattern_high : (x : Pattern) → height (APattern x) ≡ suc (suc (highest (parts (APattern x))))
+is_pattern : (x : Pattern) → height (APattern x) ≡ fold_pattern heights x
 unfolding height
-pattern_high x = fold_out-Pattern ℕ ℕ ℕ ℕ ℕ heights.expr heights.function heights.pattern heights.stmt heights.slot x ∙ over _ (parts (APattern x)) (pattern_seen height (out-Pattern x))
+is_pattern x = refl
 
-stmt_high : (x : Stmt) → height (AStmt x) ≡ suc (suc (highest (parts (AStmt x))))
+is_stmt : (x : Stmt) → height (AStmt x) ≡ fold_stmt heights x
 unfolding height
-stmt_high x = fold_out-Stmt ℕ ℕ ℕ ℕ ℕ heights.expr heights.function heights.pattern heights.stmt heights.slot x ∙ over _ (parts (AStmt x)) (stmt_seen height (out-Stmt x))
+is_stmt x = refl
 
-slot_high : (x : Slot) → height (ASlot x) ≡ suc (suc (highest (parts (ASlot x))))
+is_slot : (x : Slot) → height (ASlot x) ≡ fold_slot heights x
 unfolding height
-slot_high x = fold_out-Slot ℕ ℕ ℕ ℕ ℕ heights.expr heights.function heights.pattern heights.stmt heights.slot x ∙ over _ (parts (ASlot x)) (slot_seen height (out-Slot x))
+is_slot x = refl
 
-abbrev expr_height : Expr → ℕ
-expr_height x = height (AnExpr x)
-
-abbrev stmt_height : Stmt → ℕ
-stmt_height x = height (AStmt x)
-
-tail_high : (head : Expr) (before : List (Tail Expr)) (t : Tail Expr) → height (ATail head before t) ≡ suc (tallest_of expr_height (tail_parts t))
+is_tail : (head : Expr) (before : List (Tail Expr)) (t : Tail Expr) → height (ATail head before t) ≡ suc (tail_row unmarked above_expr t 0)
 unfolding height
-tail_high head before t = refl
+is_tail head before t = refl
 
-body_high : (body : List Stmt) → height (ABody body) ≡ suc (tallest_of stmt_height body)
+is_body : (body : List Stmt) → height (ABody body) ≡ suc (each_of above_stmt body 0)
 unfolding height
-body_high body = refl
+is_body body = refl
 
-tallest-append : {X : Type 0} (f : X → ℕ) (xs ys : List X) → tallest_of f (xs ++ ys) ≡ max (tallest_of f xs) (tallest_of f ys)
-tallest-append f [] ys = omega arith
-tallest-append f (x ∷ xs) ys = let t = tallest-append f xs ys in omega (arith, t)
+-- rows without the tails of chains
+abbrev plain : Writer Expr Function Pattern Stmt Slot ℕ
+plain = record {
+  marks = unmarked;
+  expr = above_expr;
+  function = λ x h. max (fold_function heights x) h;
+  pattern = λ x h. max (fold_pattern heights x) h;
+  stmt = above_stmt;
+  slot = λ x h. max (fold_slot heights x) h;
+  tails = λ head ts h. h;
+}
 
-tails_high : (head : Expr) (before tails : List (Tail Expr)) → highest (tails_behind head before tails) ≤ suc (tallest_of expr_height (flat_map tail_parts tails))
-tails_high head before [] = omega arith
-tails_high head before (t ∷ ts) =
-    let a = tails_high head (before ++ t ∷ []) ts in
-    let b = tail_high head before t in
-    let c = tallest-append expr_height (tail_parts t) (flat_map tail_parts ts) in
-    omega (arith, a, b, c)
+abbrev plain_nodes : Writer Expr Function Pattern Stmt Slot (List Node)
+plain_nodes = record nodes { tails = λ head ts ns. ns }
 
--- the parts of an expression are lower
-expr_below : (x : ExprLayer) → highest (expr_parts x) < suc (suc (highest (in_expr (seen_expr as_nodes x))))
-expr_below (Expr-F.Chain head tails) =
-    let a = tails_high head [] tails in
-    let b = ap highest (tails_seen (λ n. n) head tails) in
-    let c = tallest-map height AnExpr (flat_map tail_parts tails) in
-    omega (arith, a, b, c)
-expr_below _ = omega arith
+plain_keeps : Keeps plain plain_nodes Any (λ h ns. highest ns ≤ h)
+plain_keeps = record {
+  token = λ test t r s e. e;
+  option = λ test o r s e. e;
+  ahead = λ c r s e. e;
+  expr = λ x r s h e. (let a = is_expr x in omega (arith, a, e));
+  function = λ x r s h e. (let a = is_function x in omega (arith, a, e));
+  pattern = λ x r s h e. (let a = is_pattern x in omega (arith, a, e));
+  stmt = λ x r s h e. (let a = is_stmt x in omega (arith, a, e));
+  slot = λ x r s h e. (let a = is_slot x in omega (arith, a, e));
+  tails = λ head ts ns r s h k. k (all_any ns);
+}
+
+module _ (m : ℕ) where
+  abbrev Grows : ℕ → ℕ → Type 0
+  Grows a b = (a ≤ b) × (m ≤ b)
+
+  grows : Keeps plain plain Any Grows
+  grows = record {
+    token = λ test t r s e. e;
+    option = λ test o r s e. e;
+    ahead = λ c r s e. e;
+    expr = λ x r s h e. (let a = e.0 in let b = e.1 in (omega (arith, a), omega (arith, b)));
+    function = λ x r s h e. (let a = e.0 in let b = e.1 in (omega (arith, a), omega (arith, b)));
+    pattern = λ x r s h e. (let a = e.0 in let b = e.1 in (omega (arith, a), omega (arith, b)));
+    stmt = λ x r s h e. (let a = e.0 in let b = e.1 in (omega (arith, a), omega (arith, b)));
+    slot = λ x r s h e. (let a = e.0 in let b = e.1 in (omega (arith, a), omega (arith, b)));
+    tails = λ head ts ns r s h k. k (all_any ns);
+  }
+
+  grown : (t : Tail Expr) → Grows (tail_row unmarked above_expr t 0) (tail_row unmarked above_expr t m)
+  grown t = tail_keeps plain plain Any Grows grows t 0 m (all_any (tail_row unmarked nodes.expr t [])) (omega arith, omega arith)
+
+tails_above : (head : Expr) (before ts : List (Tail Expr)) (r : ℕ) (s : List Node) → highest s ≤ suc r → highest (tails_behind head before ts s) ≤ suc (each_of (tail_row unmarked above_expr) ts r)
+tails_above head before [] r s e = e
+tails_above head before (t ∷ ts) r s e =
+    let m : ℕ = each_of (tail_row unmarked above_expr) ts r in
+    let a = tails_above head (before ++ t ∷ []) ts r s e in
+    let b = is_tail head before t in
+    let c = (grown m t).0 in
+    let d = (grown m t).1 in
+    omega (arith, a, b, c, d)
+
+abbrev above : Writer Expr Function Pattern Stmt Slot ℕ
+above = over greatest (fold_expr heights) (fold_function heights) (fold_pattern heights) (fold_stmt heights) (fold_slot heights)
+
+-- the nodes in a row are no higher than it, with room for one between them
+above_keeps : Keeps above nodes Any (λ h ns. highest ns ≤ suc h)
+above_keeps = record {
+  token = λ test t r s e. e;
+  option = λ test o r s e. e;
+  ahead = λ c r s e. e;
+  expr = λ x r s h e. (let a = is_expr x in omega (arith, a, e));
+  function = λ x r s h e. (let a = is_function x in omega (arith, a, e));
+  pattern = λ x r s h e. (let a = is_pattern x in omega (arith, a, e));
+  stmt = λ x r s h e. (let a = is_stmt x in omega (arith, a, e));
+  slot = λ x r s h e. (let a = is_slot x in omega (arith, a, e));
+  tails = λ head ts ns r s h k. (let a = tails_above head [] ts r s (k (all_any ns)) in let b = tails_map unmarked max (fold_expr heights) ts r in omega (arith, a, b));
+}
+
+none_high : highest [] ≤ 1
+none_high = omega arith
 
 -- parts are lower than their node
 pub parts_below : (n : Node) → highest (parts n) < height n
-parts_below (AnExpr x) = let a = expr_high x in let b = expr_below (out-Expr x) in omega (arith, a, b)
-parts_below (AFunction x) = let a = function_high x in omega (arith, a)
-parts_below (APattern x) = let a = pattern_high x in omega (arith, a)
-parts_below (AStmt x) = let a = stmt_high x in omega (arith, a)
-parts_below (ASlot x) = let a = slot_high x in omega (arith, a)
-parts_below (ATail head before t) = let a = tail_high head before t in let b = tallest-map height AnExpr (tail_parts t) in omega (arith, a, b)
-parts_below (ABody body) = let a = body_high body in let b = tallest-map height AStmt body in omega (arith, a, b)
+parts_below (AnExpr x) =
+    let a = expr_keeps above nodes Any (λ h ns. highest ns ≤ suc h) above_keeps (out-Expr x) 0 [] (all_any (parts (AnExpr x))) none_high in
+    let b = expr_over greatest (fold_expr heights) (fold_function heights) (fold_pattern heights) (fold_stmt heights) (fold_slot heights) (out-Expr x) 0 in
+    let c = is_expr x ∙ fold_out-Expr ℕ ℕ ℕ ℕ ℕ heights.expr heights.function heights.pattern heights.stmt heights.slot x in
+    omega (arith, a, b, c)
+parts_below (AFunction x) =
+    let a = function_keeps above nodes Any (λ h ns. highest ns ≤ suc h) above_keeps (out-Function x) 0 [] (all_any (parts (AFunction x))) none_high in
+    let b = function_over greatest (fold_expr heights) (fold_function heights) (fold_pattern heights) (fold_stmt heights) (fold_slot heights) (out-Function x) 0 in
+    let c = is_function x ∙ fold_out-Function ℕ ℕ ℕ ℕ ℕ heights.expr heights.function heights.pattern heights.stmt heights.slot x in
+    omega (arith, a, b, c)
+parts_below (APattern x) =
+    let a = pattern_keeps above nodes Any (λ h ns. highest ns ≤ suc h) above_keeps (out-Pattern x) 0 [] (all_any (parts (APattern x))) none_high in
+    let b = pattern_over greatest (fold_expr heights) (fold_function heights) (fold_pattern heights) (fold_stmt heights) (fold_slot heights) (out-Pattern x) 0 in
+    let c = is_pattern x ∙ fold_out-Pattern ℕ ℕ ℕ ℕ ℕ heights.expr heights.function heights.pattern heights.stmt heights.slot x in
+    omega (arith, a, b, c)
+parts_below (AStmt x) =
+    let a = stmt_keeps above nodes Any (λ h ns. highest ns ≤ suc h) above_keeps (out-Stmt x) 0 [] (all_any (parts (AStmt x))) none_high in
+    let b = stmt_over greatest (fold_expr heights) (fold_function heights) (fold_pattern heights) (fold_stmt heights) (fold_slot heights) (out-Stmt x) 0 in
+    let c = is_stmt x ∙ fold_out-Stmt ℕ ℕ ℕ ℕ ℕ heights.expr heights.function heights.pattern heights.stmt heights.slot x in
+    omega (arith, a, b, c)
+parts_below (ASlot x) =
+    let a = slot_keeps above nodes Any (λ h ns. highest ns ≤ suc h) above_keeps (out-Slot x) 0 [] (all_any (parts (ASlot x))) none_high in
+    let b = slot_over greatest (fold_expr heights) (fold_function heights) (fold_pattern heights) (fold_stmt heights) (fold_slot heights) (out-Slot x) 0 in
+    let c = is_slot x ∙ fold_out-Slot ℕ ℕ ℕ ℕ ℕ heights.expr heights.function heights.pattern heights.stmt heights.slot x in
+    omega (arith, a, b, c)
+parts_below (ATail head before t) =
+    let a = tail_keeps plain plain_nodes Any (λ h ns. highest ns ≤ h) plain_keeps t 0 [] (all_any (parts (ATail head before t))) (omega arith) in
+    let b = is_tail head before t in
+    omega (arith, a, b)
+parts_below (ABody body) =
+    let a = body_keeps plain plain_nodes Any (λ h ns. highest ns ≤ h) plain_keeps body 0 [] (all_any (parts (ABody body))) (omega arith) in
+    let b = is_body body in
+    omega (arith, a, b)
 
 -- FOLDS
 
@@ -227,17 +245,3 @@ module _ {C B : Type 0} (own : Node → C → List B) (inside : Node → C → O
   gathered_passed n c passed =
       (λ i. folded_is {A = C → List B} step n i c)
       ∙ ap (λ o. own n c ++ unless_passed (map (gathered own inside) (parts n)) o) passed ∙ append-nil (own n c)
-
--- the variables of a declaration
-pub parts-Vars : (word : Token) (decls : List (Listed Slot)) (semi : Option Token) → parts (AStmt (statement.Vars word decls semi)) ≡ map ASlot (items_in decls)
-parts-Vars word decls semi = ap (λ y. in_stmt (seen_stmt as_nodes y)) (statement.outs-Vars word decls semi) ∙ items_seen ASlot decls
-
-pub drop_next : {X : Type 0} (xs : List X) (i : ℕ) (d : X) → i < length xs → drop i xs ≡ get_or xs i d ∷ drop (i + 1) xs
-drop_next xs i d within = drop-cons xs i d within ∙ (λ j. get_or xs i d ∷ drop (sym (add-one i) j) xs)
-
--- the next tail of a chain
-pub tails_next : (head : Expr) (tails : List (Tail Expr)) (i : ℕ) (x : Tail Expr) → i < length tails → x ≡ get_or tails i x
-    → tails_behind head (take i tails) (drop i tails) ≡ ATail head (take i tails) x ∷ tails_behind head (take (i + 1) tails) (drop (i + 1) tails)
-tails_next head tails i x within is =
-    ap (tails_behind head (take i tails)) (drop_next tails i x within)
-    ∙ (λ j. ATail head (take i tails) (sym is j) ∷ tails_behind head (sym (take_more tails i x within) j) (drop (i + 1) tails))

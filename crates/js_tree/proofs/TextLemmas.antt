@@ -1,26 +1,39 @@
 -- What the tokens of a text are: each has a place of its own, below the end of the text.
-use Rattle.std.proofs.Common.{◌≡◌, ℕ, ◌+◌, ◌<◌, ◌≤◌, ◌==◌, Bool, true, false, cond, not, ◌||◌, nat_le, nat_lt, List, [], ◌∷◌, ◌++◌, map, length, length-append, length-drop, append_assoc, refl, sym, ap, ◌∙◌, subst, arith}
-use Rattle.std.specs.List.{AllByRecursion, count_by, flat_map}
+use Rattle.std.proofs.Common.{◌≡◌, ℕ, ◌+◌, ◌<◌, ◌≤◌, ◌==◌, Bool, true, false, cond, not, ◌||◌, nat_le, nat_lt, List, [], ◌∷◌, ◌++◌, map, length, length-append, length-drop, append_assoc, refl, sym, ap, ◌∙◌, subst, arith, Option, Some, None}
+use Rattle.std.specs.List.{AllByRecursion, count_by, flat_map, fold}
 use Rattle.std.proofs.lemmas.Bool.Decides.{Decides-ltb, nat_tests}
+use Rattle.std.proofs.lemmas.Str.{chars-nil}
 use Rattle.std.proofs.lemmas.List.Sums.{sum_by-append, sum_by-cons}
 use Rattle.js_tree.specs.declared.token.Token.{Token}
 use Rattle.js_tree.specs.declared.token.TokenClass.{TokenClass}
 use Rattle.js_tree.specs.declared.token.TokenClass.TheVariants as class
-use Rattle.js_tree.specs.declared.tree.Arguments.{Arguments}
+use Rattle.js_tree.specs.declared.lists.Arm.{Arm}
+use Rattle.js_tree.specs.declared.lists.Tail.{Tail}
 use Rattle.js_tree.specs.declared.tree.Expr.{Expr, out-Expr}
-use Rattle.js_tree.specs.declared.tree.Expr.TheOpen.{Expr-F, Function-F}
+use Rattle.js_tree.specs.declared.tree.Expr.TheOpen.{Expr-F, Function-F, Pattern-F}
 use Rattle.js_tree.specs.declared.tree.Function.{Function, out-Function}
+use Rattle.js_tree.specs.declared.tree.Pattern.{Pattern, out-Pattern}
+use Rattle.js_tree.specs.declared.tree.Slot.{Slot}
 use Rattle.js_tree.specs.declared.tree.Stmt.{Stmt}
-use Rattle.js_tree.specs.declared.tree.Tail.{Tail}
-use Rattle.js_tree.specs.declared.tree.Tail.TheVariants as tail
 use Rattle.js_tree.specs.declared.tree.Tree.{Tree}
-use Rattle.js_tree.specs.Folds.{ExprLayer, FunctionLayer}
-use Rattle.js_tree.specs.Lexing.{IsOf, LexesTo, Place, start_of}
-use Rattle.js_tree.specs.Parts.{Node, AnExpr, AFunction, APattern, AStmt, ASlot, ATail, ABody, expr_parts, items_in, parts, tails_behind}
+use Rattle.js_tree.specs.Folds.{ExprLayer, FunctionLayer, PatternLayer}
+use Rattle.js_tree.specs.declared.part.RegexPart.TheVariants as regex_part
+use Rattle.js_tree.specs.Lexical.{IsIdentifier, LexesTo, Reaches}
+use Rattle.js_tree.specs.Lexical.Name as name
+use Rattle.js_tree.specs.Lexical.Regex as regex
+use Rattle.js_tree.specs.Lexing.{Place, start_of}
+use Rattle.js_tree.specs.Line.{LineItem, ANode, items, possible, line_of}
+use Rattle.js_tree.specs.Parts.{Node, AnExpr, AFunction, APattern, AStmt, ASlot, ATail, ABody, each_tail, parts, tails_behind}
 use Rattle.js_tree.specs.Spelling.{tokens_of}
+use Rattle.js_tree.specs.Spelling.Expressions.{expr_row}
+use Rattle.js_tree.specs.Spelling.Functions.{function_row}
+use Rattle.js_tree.specs.Spelling.Patterns.{pattern_row}
+use Rattle.js_tree.specs.Spelling.Rows.{Writer, arm_row, each_of}
 use Rattle.js_tree.specs.Spells.{Spells, limit}
-use Rattle.js_tree.specs.Tokens.{IsInText, IsOfText, expr_tokens, function_tokens, own_tokens, tokens_in}
+use Rattle.js_tree.specs.Tokens.{IsInText, IsOfText, own_tokens, tokens_among, tokens_in}
 use Rattle.js_tree.proofs.GatherLemmas.{along_parts, each_back, each_front}
+use Rattle.js_tree.proofs.LineLemmas.{nodes_in, line_nodes}
+use Rattle.js_tree.proofs.RowPairs.{Keeps, expr_keeps, function_keeps, pattern_keeps}
 use Rattle.js_tree.proofs.TokenLemmas.{covered, tokens_are}
 
 abbrev one_if : Bool → ℕ
@@ -49,25 +62,29 @@ none_counted p (t ∷ ts) e = let m = counts_more p t ts in (by (p t) refl, none
     by true f = let v = ap one_if f in let m = counts_more p t ts in absurd (omega (arith, e, m, v))
     by false f = f
 
+no_name : {A : Type 0} → IsIdentifier [] → A
+no_name r = absurd (let e : false ≡ true = (λ i. name.may_end (fold name.next name.Front (sym chars-nil i))) ∙ r.ends in cc)
+
 -- a token has a byte
-some_byte : (c : TokenClass) (text : List ℕ) → IsOf c text → 0 < length text
-some_byte class.Name text f = f.0.some
-some_byte class.Word text f = f.0.some
-some_byte class.Str text f = let q = f.quoted in omega (arith, q)
-some_byte class.Punct text f = let q = f.single in omega (arith, q)
-some_byte class.Number text f = absurd f
-some_byte class.TemplateWhole text f = absurd f
-some_byte class.TemplateHead text f = absurd f
-some_byte class.TemplateMiddle text f = absurd f
-some_byte class.TemplateTail text f = absurd f
-some_byte class.Regex text f = absurd f
-some_byte class.End text f = absurd f
+some_byte : (c : TokenClass) (text : List ℕ) → Reaches c text → 0 < length text
+some_byte c (b ∷ text) r = omega arith
+some_byte class.Name [] r = no_name r
+some_byte class.Word [] r = no_name r
+some_byte class.Number [] r = absurd (let e : false ≡ true = r in cc)
+some_byte class.Str [] r = absurd (let e : false ≡ true = r.1 in cc)
+some_byte class.TemplateWhole [] r = absurd (let e : false ≡ true = r in cc)
+some_byte class.TemplateHead [] r = absurd (let e : false ≡ true = r in cc)
+some_byte class.TemplateMiddle [] r = absurd (let e : false ≡ true = r in cc)
+some_byte class.TemplateTail [] r = absurd (let e : false ≡ true = r in cc)
+some_byte class.Regex [] r = absurd (let e : false ≡ true = (λ i. regex.may_end (fold regex.next regex_part.Front (sym chars-nil i))) ∙ r.ends in cc)
+some_byte class.Punct [] r = absurd (let e : false ≡ true = r in cc)
+some_byte class.End [] r = absurd r
 
 -- a token with its place between these
 pub record IsBetween (from to : ℕ) (t : Token) : Type 0 where
   pub begin : from ≤ t.start
   pub end : t.start + length t.text ≤ to
-  pub form : IsOf t.class t.text
+  pub some : 0 < length t.text
 
 abbrev pub at_start : ℕ → List Token → ℕ
 at_start s = count_by (λ (t : Token). t.start == s)
@@ -93,7 +110,7 @@ absent s from to (t ∷ ts) lt each =
 
 later : (a b to : ℕ) (ts : List Token) → a ≤ b → AllByRecursion (IsBetween b to) ts → AllByRecursion (IsBetween a to) ts
 later a b to [] le each = tt
-later a b to (t ∷ ts) le each = let e = each.0.begin in (record { begin = omega (arith, le, e); end = each.0.end; form = each.0.form }, later a b to ts le each.1)
+later a b to (t ∷ ts) le each = let e = each.0.begin in (record { begin = omega (arith, le, e); end = each.0.end; some = each.0.some }, later a b to ts le each.1)
 
 once_more : (s : ℕ) (t : Token) (from to : ℕ) (ts : List Token) → t.start < from → AllByRecursion (IsBetween from to) ts → at_start s ts ≤ 1 → at_start s (t ∷ ts) ≤ 1
 once_more s t from to ts lt each few = by (t.start == s) refl
@@ -117,8 +134,7 @@ pub lexed : (p q : Place) (ts : List Token) → LexesTo p ts q → AreLexed p.at
 lexed p q [] e = record { few = omega arith; each = tt; once = λ s. omega arith }
 lexed p q (t ∷ ts) (m, n, rest) =
     let len = length t.text in
-    let form : IsOf t.class t.text = subst (IsOf t.class) (sym n.text) n.cut.stands.form in
-    let some = some_byte t.class t.text form in
+    let some = some_byte t.class t.text (subst (Reaches t.class) (sym n.text) n.cut.stands.longest.holds) in
     let gap = n.cut.trivia.within in
     let fits = n.cut.stands.longest.within in
     let cut = length-drop n.gap p.left in
@@ -131,7 +147,7 @@ lexed p q (t ∷ ts) (m, n, rest) =
     let each : AllByRecursion (IsBetween m.at (p.at + length p.left)) ts = subst (λ k. AllByRecursion (IsBetween m.at k) ts) to r.each in
     record {
       few = omega (arith, few, to, at, some);
-      each = (record { begin = omega (arith, start); end = omega (arith, start, gap, fits, cut); form = form }, later p.at m.at (p.at + length p.left) ts (omega (arith, at)) each);
+      each = (record { begin = omega (arith, start); end = omega (arith, start, gap, fits, cut); some = some }, later p.at m.at (p.at + length p.left) ts (omega (arith, at)) each);
       once = λ s. once_more s t m.at (p.at + length p.left) ts (omega (arith, start, at, some)) each (r.once s);
     }
 
@@ -155,7 +171,7 @@ unfolding is_outside
 all_outside from to [] le each = tt
 all_outside from to (t ∷ ts) le each =
     let b = each.0.end in
-    let some = some_byte t.class t.text each.0.form in
+    let some = each.0.some in
     let s : nat_lt t.start limit ≡ true = (Decides-ltb t.start limit).1 (omega (arith, b, le, some)) in
     let l : nat_le (length t.text) limit ≡ true = by_fit (length t.text) limit (omega (arith, b, le)) in
     ((λ i. not (s i) || not (l i)), all_outside from to ts le each.1)
@@ -170,7 +186,7 @@ pub spelled : (text : List ℕ) (tree : Tree) → Spells text tree → IsInText 
 spelled text tree s =
     let body = ABody tree.body in
     let made = lexed (start_of text) s.lexes.0 (tokens_of tree) s.lexes.1 in
-    let fewer : (p : Token → Bool) → count_by p (tokens_in body) ≤ count_by p (tokens_of tree) = λ p. (let c = covered p body [] in omega (arith, c)) in
+    let fewer : (p : Token → Bool) → count_by p (tokens_in body) ≤ count_by p (tokens_of tree) = λ p. (let c = covered p tree.body in omega (arith, c)) in
     let fits = s.fits in
     let few = made.few in
     let all = fewer (λ t. true) in
@@ -214,57 +230,96 @@ total_more m ms = length-append (tokens_in m) (flat_map tokens_in ms)
 pub tokens_count : (n : Node) → length (tokens_in n) ≡ length (own_tokens n) + total (parts n)
 tokens_count n = ap (λ ts. length ts) (tokens_are n) ∙ length-append (own_tokens n) (flat_map tokens_in (parts n))
 
--- an expression and a function have a token
+-- an expression, a function and a pattern have a token
 abbrev Begins : Node → Type 0
 Begins (AnExpr x) = 0 < length (tokens_in (AnExpr x))
 Begins (AFunction x) = 0 < length (tokens_in (AFunction x))
+Begins (APattern x) = 0 < length (tokens_in (APattern x))
 Begins _ = Unit {0}
 
-expr_begins : (x : Expr) (y : ExprLayer) → out-Expr x ≡ y → AllByRecursion Begins (expr_parts y) → Begins (AnExpr x)
-expr_begins x y e each = by y (tokens_count (AnExpr x) ∙ (λ i. length (expr_tokens (e i)) + total (expr_parts (e i)))) each
-  where
-    by : (l : ExprLayer) → length (tokens_in (AnExpr x)) ≡ length (expr_tokens l) + total (expr_parts l) → AllByRecursion Begins (expr_parts l) → 0 < length (tokens_in (AnExpr x))
-    by (Expr-F.Assign target op value) f h = let a = h.1.0 in let b = total_more (APattern target) (AnExpr value ∷ []) in let c = total_more (AnExpr value) [] in omega (arith, f, a, b, c)
-    by (Expr-F.Chain head tails) f h = let a = h.0 in let b = total_more (AnExpr head) (tails_behind head [] tails) in omega (arith, f, a, b)
-    by (Expr-F.«Expr::Fun» function) f h = let a = h.0 in let b = total_more (AFunction function) [] in omega (arith, f, a, b)
-    by (Expr-F.Literal t) f h = omega (arith, f)
-    by (Expr-F.«Expr::Name» t) f h = omega (arith, f)
+-- whether a row has something that has a token
+abbrev some_part : Writer Expr Function Pattern Stmt Slot Bool
+some_part = record {
+  marks = record { token = λ test t b. true; option = λ test o b. b; ahead = λ c b. b };
+  expr = λ x b. true;
+  function = λ x b. true;
+  pattern = λ x b. true;
+  stmt = λ x b. b;
+  slot = λ x b. b;
+  tails = λ head ts b. b;
+}
 
-function_begins : (x : Function) → 0 < length (tokens_in (AFunction x))
-function_begins x = by (out-Function x) (tokens_count (AFunction x))
-  where
-    by : (l : FunctionLayer) → length (tokens_in (AFunction x)) ≡ length (function_tokens l) + total (parts (AFunction x)) → 0 < length (tokens_in (AFunction x))
-    by (Function-F.Keyword word name params body) f = omega (arith, f)
+arms_some : (arms : List (Arm Expr)) → each_of (arm_row some_part.marks some_part.expr) arms true ≡ true
+arms_some [] = refl
+arms_some (x ∷ xs) = refl
+
+expr_some : (x : ExprLayer) → expr_row some_part x false ≡ true
+expr_some (Expr-F.Cond arms last) = arms_some arms
+expr_some _ = refl
+
+function_some : (x : FunctionLayer) → function_row some_part x false ≡ true
+function_some (Function-F.Keyword word name params body) = refl
+
+pattern_some : (x : PatternLayer) → pattern_row some_part x false ≡ true
+pattern_some (Pattern-F.«Pattern::Name» t) = refl
+pattern_some (Pattern-F.Member chain) = refl
+pattern_some (Pattern-F.«Pattern::Paren» begin inner end) = refl
+
+-- how many tokens items have
+abbrev weight : List LineItem → ℕ
+weight is = length (tokens_among is) + total (nodes_in is)
+
+abbrev Has : Bool → List LineItem → Type 0
+Has b is = b ≡ true → 0 < weight is
+
+option_has : (o : Option Token) (b : Bool) (is : List LineItem) → Has b is → Has b (possible o is)
+option_has None b is e = e
+option_has (Some t) b is e = λ f. omega arith
+
+node_has : (n : Node) (is : List LineItem) → 0 < length (tokens_in n) → 0 < weight (ANode n ∷ is)
+node_has n is h = let m = total_more n (nodes_in is) in omega (arith, h, m)
+
+also_has : (n : Node) (b : Bool) (is : List LineItem) → Has b is → Has b (ANode n ∷ is)
+also_has n b is e = λ f. (let a = e f in let m = total_more n (nodes_in is) in omega (arith, a, m))
+
+tails_have : (head : Expr) (before ts : List (Tail Expr)) (ns : List Node) (b : Bool) (is : List LineItem) → AllByRecursion Begins (tails_behind head before ts ns) → (AllByRecursion Begins ns → Has b is)
+    → Has b (each_tail (λ n rest. ANode n ∷ rest) head before ts is)
+tails_have head before [] ns b is h k = k h
+tails_have head before (t ∷ ts) ns b is h k =
+    also_has (ATail head before t) b (each_tail (λ n rest. ANode n ∷ rest) head (before ++ t ∷ []) ts is) (tails_have head (before ++ t ∷ []) ts ns b is h.1 k)
+
+has_some : Keeps some_part items Begins Has
+has_some = record {
+  token = λ test t r s e. (λ f. omega arith);
+  option = λ test o r s e. option_has o r s e;
+  ahead = λ c r s e. e;
+  expr = λ x r s h e. (λ f. node_has (AnExpr x) s h);
+  function = λ x r s h e. (λ f. node_has (AFunction x) s h);
+  pattern = λ x r s h e. (λ f. node_has (APattern x) s h);
+  stmt = λ x r s h e. also_has (AStmt x) r s e;
+  slot = λ x r s h e. also_has (ASlot x) r s e;
+  tails = λ head ts ns r s h k. tails_have head [] ts ns r s h k;
+}
+
+none_has : Has false []
+none_has f = absurd (let k : false ≡ true = f in cc)
+
+weight_is : (n : Node) → 0 < weight (line_of n) → 0 < length (tokens_in n)
+weight_is n h = let a = tokens_count n in let b = ap total (line_nodes n) in omega (arith, h, a, b)
+
+begins_by : (n : Node) → AllByRecursion Begins (parts n) → Begins n
+begins_by (AnExpr x) each = weight_is (AnExpr x) (expr_keeps some_part items Begins Has has_some (out-Expr x) false [] each none_has (expr_some (out-Expr x)))
+begins_by (AFunction x) each = weight_is (AFunction x) (function_keeps some_part items Begins Has has_some (out-Function x) false [] each none_has (function_some (out-Function x)))
+begins_by (APattern x) each = weight_is (APattern x) (pattern_keeps some_part items Begins Has has_some (out-Pattern x) false [] each none_has (pattern_some (out-Pattern x)))
+begins_by (AStmt x) each = tt
+begins_by (ASlot x) each = tt
+begins_by (ATail head before t) each = tt
+begins_by (ABody body) each = tt
 
 pub some_token : (x : Expr) → 0 < length (tokens_in (AnExpr x))
-some_token x = along_parts Begins by_node (AnExpr x)
-  where
-    by_node : (n : Node) → AllByRecursion Begins (parts n) → Begins n
-    by_node (AnExpr y) each = expr_begins y (out-Expr y) refl each
-    by_node (AFunction y) each = function_begins y
-    by_node (APattern y) each = tt
-    by_node (AStmt y) each = tt
-    by_node (ASlot y) each = tt
-    by_node (ATail head before t) each = tt
-    by_node (ABody body) each = tt
+some_token x = along_parts Begins begins_by (AnExpr x)
 
 -- there are no more expressions than tokens in them
 pub few_exprs : (xs : List Expr) → length xs ≤ length (flat_map tokens_in (map AnExpr xs))
 few_exprs [] = omega arith
 few_exprs (x ∷ xs) = let a = some_token x in let b = few_exprs xs in let c = total_more (AnExpr x) (map AnExpr xs) in omega (arith, a, b, c)
-
--- a call has fewer arguments than the text has bytes
-pub few_arguments : (head : Expr) (before : List (Tail Expr)) (a : Arguments Expr) → IsInText (ATail head before (tail.Call a)) → length (items_in a.items) < limit
-few_arguments head before a h = let few = h.few in let c = tokens_count (ATail head before (tail.Call a)) in let e = few_exprs (items_in a.items) in omega (arith, few, c, e)
-
--- the statements of a function are in the text if it is
-pub body_in_text : (f : Function) (body : List Stmt) → parts (AFunction f) ≡ map AStmt body → IsInText (AFunction f) → IsInText (ABody body)
-body_in_text f body e h =
-    let t : tokens_in (AFunction f) ≡ own_tokens (AFunction f) ++ tokens_in (ABody body) = tokens_are (AFunction f) ∙ ap (λ ps. own_tokens (AFunction f) ++ flat_map tokens_in ps) e ∙ ap (λ ts. own_tokens (AFunction f) ++ ts) (sym (tokens_are (ABody body))) in
-    let few = h.few in
-    let l = ap (λ (us : List Token). length us) t ∙ length-append (own_tokens (AFunction f)) (tokens_in (ABody body)) in
-    record {
-      few = omega (arith, few, l);
-      each = each_back IsOfText (own_tokens (AFunction f)) (tokens_in (ABody body)) (subst (AllByRecursion IsOfText) t h.each);
-      once = λ s. (let o = h.once s in let a = ap (at_start s) t ∙ counts_both (λ (u : Token). u.start == s) (own_tokens (AFunction f)) (tokens_in (ABody body)) in omega (arith, o, a));
-    }

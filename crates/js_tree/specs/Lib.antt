@@ -1,12 +1,12 @@
-pub mod Characters
 pub mod Folds
-pub mod Kinds
 pub mod Lexing
+pub mod Lexical
+pub mod Levels
 pub mod Line
+pub mod Operators
 pub mod Parts
 pub mod Pieces
 pub mod Spelling
 pub mod Spells
 pub mod TokenKinds
 pub mod Tokens
-pub mod Lexical

@@ -1,44 +1,20 @@
--- The tokens in a node that analyses speak of, and what they are where the node is one of a text.
-use Rattle.std.specs.Prelude.{ℕ, ◌<◌, ◌≤◌, ◌==◌, List, [], ◌∷◌, length, Option, Some, None}
+-- The tokens in the line of a node, and what they are where the node is one of a text.
+use Rattle.std.specs.Prelude.{ℕ, ◌<◌, ◌≤◌, ◌==◌, List, [], ◌∷◌, length, Some}
 use Rattle.std.specs.List.{AllByRecursion, count_by}
 use Rattle.js_tree.specs.declared.token.Token.{Token}
-use Rattle.js_tree.specs.declared.tree.Expr.{Expr, out-Expr}
-use Rattle.js_tree.specs.declared.tree.Expr.TheOpen.{Expr-F, Function-F, Pattern-F}
-use Rattle.js_tree.specs.declared.tree.Function.{out-Function}
-use Rattle.js_tree.specs.declared.tree.Pattern.{out-Pattern}
-use Rattle.js_tree.specs.declared.tree.Tail.{Tail}
-use Rattle.js_tree.specs.declared.tree.Tail.TheVariants as tail
-use Rattle.js_tree.specs.Folds.{ExprLayer, FunctionLayer, PatternLayer}
-use Rattle.js_tree.specs.Parts.{Node, AnExpr, AFunction, APattern, ATail, gathered}
+use Rattle.js_tree.specs.Line.{LineItem, AToken, ANode, line_of}
+use Rattle.js_tree.specs.Parts.{Node, gathered}
 use Rattle.js_tree.specs.Spells.{limit}
 
--- names and literals, the word and the name of a function, the names of members and the `(` of calls
-abbrev pub expr_tokens : ExprLayer → List Token
-expr_tokens (Expr-F.Literal t) = t ∷ []
-expr_tokens (Expr-F.«Expr::Name» t) = t ∷ []
-expr_tokens _ = []
+-- the tokens among items
+abbrev pub tokens_among : List LineItem → List Token
+tokens_among [] = []
+tokens_among (AToken t ∷ is) = t ∷ tokens_among is
+tokens_among (ANode n ∷ is) = tokens_among is
 
-abbrev pub name_tokens : Option Token → List Token
-name_tokens None = []
-name_tokens (Some t) = t ∷ []
-
-abbrev pub function_tokens : FunctionLayer → List Token
-function_tokens (Function-F.Keyword word name params body) = word ∷ name_tokens name
-
-abbrev pub pattern_tokens : PatternLayer → List Token
-pattern_tokens (Pattern-F.«Pattern::Name» t) = t ∷ []
-pattern_tokens _ = []
-
-abbrev pub tail_tokens : Tail Expr → List Token
-tail_tokens (tail.Member dot name) = name ∷ []
-tail_tokens (tail.Call a) = a.open ∷ []
-
+-- the tokens of a node that stand in none of its parts
 abbrev pub own_tokens : Node → List Token
-own_tokens (AnExpr x) = expr_tokens (out-Expr x)
-own_tokens (AFunction x) = function_tokens (out-Function x)
-own_tokens (APattern x) = pattern_tokens (out-Pattern x)
-own_tokens (ATail head before t) = tail_tokens t
-own_tokens _ = []
+own_tokens n = tokens_among (line_of n)
 
 -- these of a node and all its parts
 abbrev pub tokens_in : Node → List Token

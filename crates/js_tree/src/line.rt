@@ -1,18 +1,20 @@
 //! The line of a node of any kind: its tokens and the nodes in it, in the order of the text.
 ghost use Rattle.std.specs.Prelude.{◌≡◌, ◌++◌, ◌∷◌, [], map, OnOk};
-ghost use Rattle.js_tree.specs.declared.tree.Expr.{out-Expr};
-ghost use Rattle.js_tree.specs.declared.tree.Function.{out-Function};
-ghost use Rattle.js_tree.specs.declared.tree.Pattern.{out-Pattern};
-ghost use Rattle.js_tree.specs.declared.tree.Stmt.{out-Stmt};
-ghost use Rattle.js_tree.specs.declared.tree.Slot.{out-Slot};
-ghost use Rattle.js_tree.specs.Parts.{AnExpr, ASlot, node_of, tails_behind};
-ghost use Rattle.js_tree.specs.Line.{AToken, ANode, item_of, possible, listed, body_items, expr_items, function_items, pattern_items, stmt_items, slot_items, tail_items, line_of, init_items};
+ghost use Rattle.js_tree.specs.Parts.{node_of};
+ghost use Rattle.js_tree.specs.Line.{AToken, ANode, item_of, line_of};
+ghost use Rattle.js_tree.specs.Parts.{AnExpr, AFunction, APattern, AStmt, ASlot, ATail};
+ghost use Rattle.js_tree.specs.Line.{given_marks, items};
+ghost use Rattle.js_tree.specs.Spelling.Rows.{tail_row};
 
+use crate::line_bracket::push_bracket;
+use crate::line_list::{
+    push_body, push_chain, push_choice, push_init, push_keyword, push_new, push_possible,
+    push_return, push_several, push_template, push_vars,
+};
+use crate::lists::Tail;
 use crate::node::Node;
 use crate::token::Token;
-use crate::tree::{
-    Arguments, Block, Expr, Function, Init, Listed, Params, Pattern, Slot, Stmt, Tail,
-};
+use crate::tree::{Expr, Function, Pattern, Slot, Stmt};
 use jam_base::OutOfMemory;
 use sqlite_items::Boxed;
 
@@ -45,26 +47,61 @@ pub fn push_line<'t>(node: Node<'t>, out: &mut Vec<LineItem<'t>>) -> Result<(), 
 }
 
 fn push_expr<'t>(value: &'t Expr, out: &mut Vec<LineItem<'t>>) -> Result<(), OutOfMemory>
-    ensures { OnOk result (map item_of out.new.items ≡ map item_of out.old.items ++ expr_items (out-Expr value.now)) }
+    ensures { OnOk result (map item_of out.new.items ≡ map item_of out.old.items ++ line_of (AnExpr value.now)) }
 {
     match value {
+        Expr::Name(token) => push_token(token, out),
+        Expr::This(token) => push_token(token, out),
+        Expr::Literal(token) => push_token(token, out),
+        Expr::Template(template) => push_template(template, out),
+        Expr::Paren { open, inner, close } => {
+            push_token(open, out)?;
+            push_node(Node::Expr(inner.get()), out)?;
+            push_token(close, out)
+        }
+        Expr::Fun { function } => push_node(Node::Function(function.get()), out),
+        Expr::Chain { head, tails } => push_chain(head.get(), tails.as_slice(), out),
+        Expr::New {
+            word,
+            head,
+            tails,
+            args,
+        } => push_new(word, head.get(), tails.as_slice(), args, out),
+        Expr::NewTarget { word, dot, target } => {
+            push_token(word, out)?;
+            push_token(dot, out)?;
+            push_token(target, out)
+        }
+        Expr::Postfix { target, op } => {
+            push_node(Node::Expr(target.get()), out)?;
+            push_token(op, out)
+        }
+        Expr::Unary { op, operand } => {
+            push_token(op, out)?;
+            push_node(Node::Expr(operand.get()), out)
+        }
+        Expr::Power { base, op, exponent } => {
+            push_node(Node::Expr(base.get()), out)?;
+            push_token(op, out)?;
+            push_node(Node::Expr(exponent.get()), out)
+        }
+        Expr::Binary {
+            level: _,
+            first,
+            rest,
+        } => push_several(first.get(), rest.as_slice(), out),
+        Expr::Cond { arms, last } => push_choice(arms.as_slice(), last.get(), out),
         Expr::Assign { target, op, value } => {
             push_node(Node::Pattern(target.get()), out)?;
             push_token(op, out)?;
             push_node(Node::Expr(value.get()), out)
         }
-        Expr::Chain { head, tails } => {
-            push_node(Node::Expr(head.get()), out)?;
-            push_tails(head.get(), tails.as_slice(), out)
-        }
-        Expr::Fun { function } => push_node(Node::Function(function.get()), out),
-        Expr::Literal(token) => push_token(token, out),
-        Expr::Name(token) => push_token(token, out),
+        Expr::Comma { first, rest } => push_several(first.get(), rest.as_slice(), out),
     }
 }
 
 fn push_function<'t>(function: &'t Function, out: &mut Vec<LineItem<'t>>) -> Result<(), OutOfMemory>
-    ensures { OnOk result (map item_of out.new.items ≡ map item_of out.old.items ++ function_items (out-Function function.now)) }
+    ensures { OnOk result (map item_of out.new.items ≡ map item_of out.old.items ++ line_of (AFunction function.now)) }
 {
     match function {
         Function::Keyword {
@@ -72,182 +109,81 @@ fn push_function<'t>(function: &'t Function, out: &mut Vec<LineItem<'t>>) -> Res
             name,
             params,
             body,
-        } => {
-            push_token(word, out)?;
-            push_possible(name, out)?;
-            push_params(params, out)?;
-            push_block(body, out)
-        }
+        } => push_keyword(word, name, params, body, out),
     }
 }
 
-fn push_params<'t>(params: &'t Params, out: &mut Vec<LineItem<'t>>) -> Result<(), OutOfMemory>
-    ensures { OnOk result (map item_of out.new.items ≡ map item_of out.old.items ++ AToken params.now.«open» ∷ AToken params.now.close ∷ []) }
-{
-    push_token(&params.open, out)?;
-    push_token(&params.close, out)
-}
-
-fn push_block<'t>(block: &'t Block<Stmt>, out: &mut Vec<LineItem<'t>>) -> Result<(), OutOfMemory>
-    ensures { OnOk result (map item_of out.new.items ≡ map item_of out.old.items ++ AToken block.now.begin ∷ body_items block.now.body ++ AToken block.now.end ∷ []) }
-{
-    push_token(&block.begin, out)?;
-    push_body(block.body.as_slice(), out)?;
-    push_token(&block.end, out)
-}
-
 fn push_pattern<'t>(pattern: &'t Pattern, out: &mut Vec<LineItem<'t>>) -> Result<(), OutOfMemory>
-    ensures { OnOk result (map item_of out.new.items ≡ map item_of out.old.items ++ pattern_items (out-Pattern pattern.now)) }
+    ensures { OnOk result (map item_of out.new.items ≡ map item_of out.old.items ++ line_of (APattern pattern.now)) }
 {
     match pattern {
         Pattern::Name(token) => push_token(token, out),
         Pattern::Member { chain } => push_node(Node::Expr(chain.get()), out),
+        Pattern::Paren { open, inner, close } => {
+            push_token(open, out)?;
+            push_node(Node::Pattern(inner.get()), out)?;
+            push_token(close, out)
+        }
     }
 }
 
 fn push_stmt<'t>(statement: &'t Stmt, out: &mut Vec<LineItem<'t>>) -> Result<(), OutOfMemory>
-    ensures { OnOk result (map item_of out.new.items ≡ map item_of out.old.items ++ stmt_items (out-Stmt statement.now)) }
+    ensures { OnOk result (map item_of out.new.items ≡ map item_of out.old.items ++ line_of (AStmt statement.now)) }
 {
     match statement {
-        Stmt::Fun { function } => push_node(Node::Function(function.get()), out),
         Stmt::Plain { value, semi } => {
-            push_node(Node::Expr(value), out)?;
+            push_node(Node::Expr(value.get()), out)?;
             push_possible(semi, out)
         }
-        Stmt::Vars { word, decls, semi } => {
-            push_token(word, out)?;
-            push_slots(decls.as_slice(), out)?;
-            push_possible(semi, out)
-        }
+        Stmt::Vars {
+            word,
+            first,
+            rest,
+            semi,
+        } => push_vars(word, first, rest.as_slice(), semi, out),
+        Stmt::Return { word, value, semi } => push_return(word, value, semi, out),
+        Stmt::Fun { function } => push_node(Node::Function(function.get()), out),
     }
 }
 
 fn push_slot<'t>(slot: &'t Slot, out: &mut Vec<LineItem<'t>>) -> Result<(), OutOfMemory>
-    ensures { OnOk result (map item_of out.new.items ≡ map item_of out.old.items ++ slot_items (out-Slot slot.now)) }
+    ensures { OnOk result (map item_of out.new.items ≡ map item_of out.old.items ++ line_of (ASlot slot.now)) }
 {
     push_node(Node::Pattern(&slot.target), out)?;
-    push_given(&slot.init, out)
-}
-
-// Adds what a slot is given.
-fn push_given<'t>(
-    init: &'t Option<Init<Boxed<Expr>>>,
-    out: &mut Vec<LineItem<'t>>,
-) -> Result<(), OutOfMemory>
-    ensures { OnOk result (map item_of out.new.items ≡ map item_of out.old.items ++ init_items init.now) }
-{
-    match init {
-        None => Ok(()),
-        Some(init) => {
-            push_token(&init.equals, out)?;
-            push_node(Node::Expr(init.value.get()), out)
-        }
-    }
+    push_init(&slot.init, out)
 }
 
 fn push_tail<'t>(
     tail: &'t Tail<Boxed<Expr>>,
     out: &mut Vec<LineItem<'t>>,
 ) -> Result<(), OutOfMemory>
-    ensures { OnOk result (map item_of out.new.items ≡ map item_of out.old.items ++ tail_items tail.now) }
+    ensures { OnOk result (map item_of out.new.items ≡ map item_of out.old.items ++ tail_row given_marks items.expr tail.now []) }
 {
     match tail {
         Tail::Member { dot, name } => {
             push_token(dot, out)?;
             push_token(name, out)
         }
-        Tail::Call(arguments) => push_arguments(arguments, out),
+        Tail::Index { open, value, close } => {
+            push_token(open, out)?;
+            push_node(Node::Expr(value.get()), out)?;
+            push_token(close, out)
+        }
+        Tail::Call(arguments) => push_bracket(arguments, out),
+        Tail::Template(template) => push_template(template, out),
     }
 }
 
-fn push_arguments<'t>(
-    arguments: &'t Arguments<Boxed<Expr>>,
-    out: &mut Vec<LineItem<'t>>,
-) -> Result<(), OutOfMemory>
-    ensures { OnOk result (map item_of out.new.items ≡ map item_of out.old.items ++ AToken arguments.now.«open» ∷ listed AnExpr arguments.now.items ++ AToken arguments.now.close ∷ []) }
-{
-    push_token(&arguments.open, out)?;
-    push_items(arguments.items.as_slice(), out)?;
-    push_token(&arguments.close, out)
-}
-
-fn push_token<'t>(token: &'t Token, out: &mut Vec<LineItem<'t>>) -> Result<(), OutOfMemory>
+pub fn push_token<'t>(token: &'t Token, out: &mut Vec<LineItem<'t>>) -> Result<(), OutOfMemory>
     ensures { OnOk result (map item_of out.new.items ≡ map item_of out.old.items ++ AToken token.now ∷ []) }
 {
     out.push(LineItem::Token(token))?;
     Ok(())
 }
 
-// Adds a token, where there is one.
-fn push_possible<'t>(
-    token: &'t Option<Token>,
-    out: &mut Vec<LineItem<'t>>,
-) -> Result<(), OutOfMemory>
-    ensures { OnOk result (map item_of out.new.items ≡ map item_of out.old.items ++ possible token.now) }
-{
-    match token {
-        None => Ok(()),
-        Some(token) => push_token(token, out),
-    }
-}
-
-fn push_node<'t>(node: Node<'t>, out: &mut Vec<LineItem<'t>>) -> Result<(), OutOfMemory>
+pub fn push_node<'t>(node: Node<'t>, out: &mut Vec<LineItem<'t>>) -> Result<(), OutOfMemory>
     ensures { OnOk result (map item_of out.new.items ≡ map item_of out.old.items ++ ANode (node_of node.entry) ∷ []) }
 {
     out.push(LineItem::Node(node))?;
-    Ok(())
-}
-
-// Adds statements.
-fn push_body<'t>(body: &'t [Stmt], out: &mut Vec<LineItem<'t>>) -> Result<(), OutOfMemory>
-    ensures { OnOk result (map item_of out.new.items ≡ map item_of out.old.items ++ body_items body.now) }
-{
-    for statement in body {
-        push_node(Node::Stmt(statement), out)?;
-    }
-    Ok(())
-}
-
-// Adds the tails of a chain with this primary.
-fn push_tails<'t>(
-    head: &'t Expr,
-    tails: &'t [Tail<Boxed<Expr>>],
-    out: &mut Vec<LineItem<'t>>,
-) -> Result<(), OutOfMemory>
-    ensures { OnOk result (map item_of out.new.items ≡ map item_of out.old.items ++ map ANode (tails_behind head.now [] tails.now)) }
-{
-    for at in 0..tails.len() {
-        let node = Node::Tail {
-            head,
-            before: &tails[..at],
-            tail: &tails[at],
-        };
-        push_node(node, out)?;
-    }
-    Ok(())
-}
-
-// Adds expressions with their commas.
-fn push_items<'t>(
-    items: &'t [Listed<Boxed<Expr>>],
-    out: &mut Vec<LineItem<'t>>,
-) -> Result<(), OutOfMemory>
-    ensures { OnOk result (map item_of out.new.items ≡ map item_of out.old.items ++ listed AnExpr items.now) }
-{
-    for listed in items {
-        push_node(Node::Expr(listed.item.get()), out)?;
-        push_possible(&listed.comma, out)?;
-    }
-    Ok(())
-}
-
-// Adds slots with their commas.
-fn push_slots<'t>(slots: &'t [Listed<Slot>], out: &mut Vec<LineItem<'t>>) -> Result<(), OutOfMemory>
-    ensures { OnOk result (map item_of out.new.items ≡ map item_of out.old.items ++ listed ASlot slots.now) }
-{
-    for listed in slots {
-        push_node(Node::Slot(&listed.item), out)?;
-        push_possible(&listed.comma, out)?;
-    }
     Ok(())
 }

@@ -1,8 +1,15 @@
 //! Nodes of any kind, and their parts.
 ghost use Rattle.std.specs.Prelude.{◌≡◌, ◌++◌, ◌∷◌, [], map, OnOk};
-ghost use Rattle.js_tree.specs.Parts.{AnExpr, AFunction, APattern, AStmt, ASlot, node_of, items_in, tail_parts, tails_behind, parts};
+ghost use Rattle.js_tree.specs.Parts.{AnExpr, AFunction, APattern, AStmt, ASlot, node_of, nodes, parts};
+ghost use Rattle.js_tree.specs.Spelling.Rows.{tail_row};
+ghost use Rattle.js_tree.specs.Spelling.Nodes.{unmarked};
 
-use crate::tree::{Expr, Function, Listed, Pattern, Slot, Stmt, Tail};
+use crate::lists::Tail;
+use crate::node_list::{
+    push_bracket, push_chain, push_choice, push_further_slots, push_keyword, push_new,
+    push_several, push_stmts, push_template, push_two, push_value,
+};
+use crate::tree::{Expr, Function, Pattern, Slot, Stmt};
 use jam_base::OutOfMemory;
 use sqlite_items::Boxed;
 
@@ -19,9 +26,9 @@ pub enum Node<'t> {
     Stmt(&'t Stmt),
     /// A slot.
     Slot(&'t Slot),
-    /// A tail of a chain.
+    /// A tail of a chain, or of what `new` makes.
     Tail {
-        /// The primary of the chain.
+        /// What stands first.
         head: &'t Expr,
         /// The tails before it.
         before: &'t [Tail<Boxed<Expr>>],
@@ -55,21 +62,47 @@ fn push_expr_parts<'t>(value: &'t Expr, out: &mut Vec<Node<'t>>) -> Result<(), O
     ensures { OnOk result (map node_of out.new.items ≡ map node_of out.old.items ++ parts (AnExpr value.now)) }
 {
     match value {
+        Expr::Name(_) => Ok(()),
+        Expr::This(_) => Ok(()),
+        Expr::Literal(_) => Ok(()),
+        Expr::Template(template) => push_template(template, out),
+        Expr::Paren {
+            open: _,
+            inner,
+            close: _,
+        } => push(Node::Expr(inner.get()), out),
+        Expr::Fun { function } => push(Node::Function(function.get()), out),
+        Expr::Chain { head, tails } => push_chain(head.get(), tails.as_slice(), out),
+        Expr::New {
+            word: _,
+            head,
+            tails,
+            args,
+        } => push_new(head.get(), tails.as_slice(), args, out),
+        Expr::NewTarget {
+            word: _,
+            dot: _,
+            target: _,
+        } => Ok(()),
+        Expr::Postfix { target, op: _ } => push(Node::Expr(target.get()), out),
+        Expr::Unary { op: _, operand } => push(Node::Expr(operand.get()), out),
+        Expr::Power {
+            base,
+            op: _,
+            exponent,
+        } => push_two(Node::Expr(base.get()), Node::Expr(exponent.get()), out),
+        Expr::Binary {
+            level: _,
+            first,
+            rest,
+        } => push_several(first.get(), rest.as_slice(), out),
+        Expr::Cond { arms, last } => push_choice(arms.as_slice(), last.get(), out),
         Expr::Assign {
             target,
             op: _,
             value,
-        } => {
-            push(Node::Pattern(target.get()), out)?;
-            push(Node::Expr(value.get()), out)
-        }
-        Expr::Chain { head, tails } => {
-            push(Node::Expr(head.get()), out)?;
-            push_tails(head.get(), tails.as_slice(), out)
-        }
-        Expr::Fun { function } => push(Node::Function(function.get()), out),
-        Expr::Literal(_) => Ok(()),
-        Expr::Name(_) => Ok(()),
+        } => push_two(Node::Pattern(target.get()), Node::Expr(value.get()), out),
+        Expr::Comma { first, rest } => push_several(first.get(), rest.as_slice(), out),
     }
 }
 
@@ -83,9 +116,9 @@ fn push_function_parts<'t>(
         Function::Keyword {
             word: _,
             name: _,
-            params: _,
+            params,
             body,
-        } => push_stmts(body.body.as_slice(), out),
+        } => push_keyword(params, body.body.as_slice(), out),
     }
 }
 
@@ -95,6 +128,11 @@ fn push_pattern_parts<'t>(pattern: &'t Pattern, out: &mut Vec<Node<'t>>) -> Resu
     match pattern {
         Pattern::Name(_) => Ok(()),
         Pattern::Member { chain } => push(Node::Expr(chain.get()), out),
+        Pattern::Paren {
+            open: _,
+            inner,
+            close: _,
+        } => push(Node::Pattern(inner.get()), out),
     }
 }
 
@@ -102,13 +140,22 @@ fn push_stmt_parts<'t>(statement: &'t Stmt, out: &mut Vec<Node<'t>>) -> Result<(
     ensures { OnOk result (map node_of out.new.items ≡ map node_of out.old.items ++ parts (AStmt statement.now)) }
 {
     match statement {
-        Stmt::Fun { function } => push(Node::Function(function.get()), out),
-        Stmt::Plain { value, semi: _ } => push(Node::Expr(value), out),
+        Stmt::Plain { value, semi: _ } => push(Node::Expr(value.get()), out),
         Stmt::Vars {
             word: _,
-            decls,
+            first,
+            rest,
             semi: _,
-        } => push_slots(decls.as_slice(), out),
+        } => {
+            push(Node::Slot(first), out)?;
+            push_further_slots(rest.as_slice(), out)
+        }
+        Stmt::Return {
+            word: _,
+            value,
+            semi: _,
+        } => push_value(value, out),
+        Stmt::Fun { function } => push(Node::Function(function.get()), out),
     }
 }
 
@@ -122,73 +169,27 @@ fn push_slot_parts<'t>(slot: &'t Slot, out: &mut Vec<Node<'t>>) -> Result<(), Ou
     }
 }
 
-fn push<'t>(node: Node<'t>, out: &mut Vec<Node<'t>>) -> Result<(), OutOfMemory>
-    ensures { OnOk result (map node_of out.new.items ≡ map node_of out.old.items ++ node_of node.entry ∷ []) }
-{
-    out.push(node)?;
-    Ok(())
-}
-
-// Adds the tails of a chain with this primary.
-fn push_tails<'t>(
-    head: &'t Expr,
-    tails: &'t [Tail<Boxed<Expr>>],
-    out: &mut Vec<Node<'t>>,
-) -> Result<(), OutOfMemory>
-    ensures { OnOk result (map node_of out.new.items ≡ map node_of out.old.items ++ tails_behind head.now [] tails.now) }
-{
-    for at in 0..tails.len() {
-        let node = Node::Tail {
-            head,
-            before: &tails[..at],
-            tail: &tails[at],
-        };
-        push(node, out)?;
-    }
-    Ok(())
-}
-
 fn push_tail_parts<'t>(
     tail: &'t Tail<Boxed<Expr>>,
     out: &mut Vec<Node<'t>>,
 ) -> Result<(), OutOfMemory>
-    ensures { OnOk result (map node_of out.new.items ≡ map node_of out.old.items ++ map AnExpr (tail_parts tail.now)) }
+    ensures { OnOk result (map node_of out.new.items ≡ map node_of out.old.items ++ tail_row unmarked nodes.expr tail.now []) }
 {
     match tail {
         Tail::Member { dot: _, name: _ } => Ok(()),
-        Tail::Call(arguments) => push_items(arguments.items.as_slice(), out),
+        Tail::Index {
+            open: _,
+            value,
+            close: _,
+        } => push(Node::Expr(value.get()), out),
+        Tail::Call(arguments) => push_bracket(arguments, out),
+        Tail::Template(template) => push_template(template, out),
     }
 }
 
-// Adds expressions with commas.
-fn push_items<'t>(
-    items: &'t [Listed<Boxed<Expr>>],
-    out: &mut Vec<Node<'t>>,
-) -> Result<(), OutOfMemory>
-    ensures { OnOk result (map node_of out.new.items ≡ map node_of out.old.items ++ map AnExpr (items_in items.now)) }
+pub fn push<'t>(node: Node<'t>, out: &mut Vec<Node<'t>>) -> Result<(), OutOfMemory>
+    ensures { OnOk result (map node_of out.new.items ≡ map node_of out.old.items ++ node_of node.entry ∷ []) }
 {
-    for listed in items {
-        push(Node::Expr(listed.item.get()), out)?;
-    }
-    Ok(())
-}
-
-// Adds slots with commas.
-fn push_slots<'t>(slots: &'t [Listed<Slot>], out: &mut Vec<Node<'t>>) -> Result<(), OutOfMemory>
-    ensures { OnOk result (map node_of out.new.items ≡ map node_of out.old.items ++ map ASlot (items_in slots.now)) }
-{
-    for listed in slots {
-        push(Node::Slot(&listed.item), out)?;
-    }
-    Ok(())
-}
-
-// Adds statements.
-fn push_stmts<'t>(body: &'t [Stmt], out: &mut Vec<Node<'t>>) -> Result<(), OutOfMemory>
-    ensures { OnOk result (map node_of out.new.items ≡ map node_of out.old.items ++ map AStmt body.now) }
-{
-    for statement in body {
-        push(Node::Stmt(statement), out)?;
-    }
+    out.push(node)?;
     Ok(())
 }

@@ -1,8 +1,8 @@
-//! The values of strings, and the tokens of a tree.
+//! The values of strings, the tokens of a tree, levels and targets.
 use jam_base::{OutOfMemory, Text};
 use js_tree::{
-    Arguments, Block, Expr, Function, Init, Listed, Params, Pattern, Slot, Stmt, Tail, Token,
-    TokenClass, Tree, spell, string_value,
+    Arm, Block, Bracket, Element, Expr, Function, Further, Init, Level, Listed, Pattern, Slot,
+    Stmt, Tail, Template, Token, TokenClass, Tree, admits, is_target, spell, string_value,
 };
 use sqlite_items::{Boxed, Items};
 use std::alloc::Global;
@@ -152,77 +152,162 @@ fn name(alloc: Global, text: &str, start: u32) -> Result<Token, OutOfMemory> {
     token(alloc, text, TokenClass::Name, start)
 }
 
-// `f . g ( "s" , h )`
-fn call(alloc: Global) -> Result<Expr, OutOfMemory> {
-    let mut items = Vec::new(alloc);
-    items.push(Listed {
-        item: Boxed::new(
+// A name as an expression.
+fn named(alloc: Global, text: &str, start: u32) -> Result<Boxed<Expr>, OutOfMemory> {
+    Ok(Boxed::new(alloc, Expr::Name(name(alloc, text, start)?))?)
+}
+
+// `( s , ... t )`
+fn arguments(alloc: Global, start: u32) -> Result<Bracket<Boxed<Expr>>, OutOfMemory> {
+    let mut front = Vec::new(alloc);
+    front.push(Listed {
+        item: Element {
+            dots: None,
+            value: named(alloc, "s", start.wrapping_add(1))?,
+        },
+        mark: mark(alloc, ",", start.wrapping_add(2))?,
+    })?;
+    Ok(Bracket {
+        open: mark(alloc, "(", start)?,
+        front: Items::from_vec(front),
+        last: Some(Element {
+            dots: Some(mark(alloc, "...", start.wrapping_add(3))?),
+            value: named(alloc, "t", start.wrapping_add(4))?,
+        }),
+        close: mark(alloc, ")", start.wrapping_add(5))?,
+    })
+}
+
+// `` `a${ b }c` ``
+fn template(alloc: Global, start: u32) -> Result<Template<Boxed<Expr>>, OutOfMemory> {
+    let mut parts = Vec::new(alloc);
+    parts.push(Listed {
+        item: named(alloc, "b", start.wrapping_add(1))?,
+        mark: token(
             alloc,
-            Expr::Literal(token(alloc, "\"s\"", TokenClass::Str, 40)?),
+            "}c`",
+            TokenClass::TemplateTail,
+            start.wrapping_add(2),
         )?,
-        comma: Some(mark(alloc, ",", 41)?),
     })?;
-    items.push(Listed {
-        item: Boxed::new(alloc, Expr::Name(name(alloc, "h", 42)?))?,
-        comma: None,
-    })?;
+    Ok(Template {
+        head: token(alloc, "`a${", TokenClass::TemplateHead, start)?,
+        parts: Items::from_vec(parts),
+    })
+}
+
+// `new a . b ( s , ... t )`, from 10 on
+fn made(alloc: Global) -> Result<Expr, OutOfMemory> {
     let mut tails = Vec::new(alloc);
     tails.push(Tail::Member {
-        dot: mark(alloc, ".", 37)?,
-        name: name(alloc, "g", 38)?,
+        dot: mark(alloc, ".", 12)?,
+        name: name(alloc, "b", 13)?,
     })?;
-    tails.push(Tail::Call(Arguments {
-        open: mark(alloc, "(", 39)?,
-        items: Items::from_vec(items),
-        close: mark(alloc, ")", 43)?,
-    }))?;
+    Ok(Expr::New {
+        word: word(alloc, "new", 10)?,
+        head: named(alloc, "a", 11)?,
+        tails: Items::from_vec(tails),
+        args: Some(Boxed::new(alloc, arguments(alloc, 14)?)?),
+    })
+}
+
+// that, and `` [ i ] `a${ b }c` ( s , ... t ) `` behind it
+fn chain(alloc: Global) -> Result<Expr, OutOfMemory> {
+    let mut tails = Vec::new(alloc);
+    tails.push(Tail::Index {
+        open: mark(alloc, "[", 20)?,
+        value: named(alloc, "i", 21)?,
+        close: mark(alloc, "]", 22)?,
+    })?;
+    tails.push(Tail::Template(template(alloc, 23)?))?;
+    tails.push(Tail::Call(arguments(alloc, 26)?))?;
     Ok(Expr::Chain {
-        head: Boxed::new(alloc, Expr::Name(name(alloc, "f", 36)?))?,
+        head: Boxed::new(alloc, made(alloc)?)?,
         tails: Items::from_vec(tails),
     })
 }
 
-// `function f ( ) { var a = b , c ; f . g ( "s" , h ) }`
+// `c ? d + e : f`, from 40 on
+fn choice(alloc: Global) -> Result<Expr, OutOfMemory> {
+    let mut rest = Vec::new(alloc);
+    rest.push(Further {
+        mark: mark(alloc, "+", 43)?,
+        item: named(alloc, "e", 44)?,
+    })?;
+    let sum = Expr::Binary {
+        level: 9,
+        first: named(alloc, "d", 42)?,
+        rest: Items::from_vec(rest),
+    };
+    let mut arms = Vec::new(alloc);
+    arms.push(Arm {
+        test: named(alloc, "c", 40)?,
+        question: mark(alloc, "?", 41)?,
+        value: Boxed::new(alloc, sum)?,
+        colon: mark(alloc, ":", 45)?,
+    })?;
+    Ok(Expr::Cond {
+        arms: Items::from_vec(arms),
+        last: named(alloc, "f", 46)?,
+    })
+}
+
+fn slot(alloc: Global, text: &str, start: u32) -> Result<Slot, OutOfMemory> {
+    Ok(Slot {
+        target: Pattern::Name(name(alloc, text, start)?),
+        init: None,
+    })
+}
+
+// `function f ( a , b ) { return c ? d + e : f ; var g , h = x ; }`
 fn function(alloc: Global) -> Result<Function, OutOfMemory> {
-    let mut decls = Vec::new(alloc);
-    decls.push(Listed {
+    let mut front = Vec::new(alloc);
+    front.push(Listed {
+        item: Element {
+            dots: None,
+            value: slot(alloc, "a", 33)?,
+        },
+        mark: mark(alloc, ",", 34)?,
+    })?;
+    let mut rest = Vec::new(alloc);
+    rest.push(Further {
+        mark: mark(alloc, ",", 50)?,
         item: Slot {
-            target: Pattern::Name(name(alloc, "a", 30)?),
+            target: Pattern::Name(name(alloc, "h", 51)?),
             init: Some(Init {
-                equals: mark(alloc, "=", 31)?,
-                value: Boxed::new(alloc, Expr::Name(name(alloc, "b", 32)?))?,
+                equals: mark(alloc, "=", 52)?,
+                value: named(alloc, "x", 53)?,
             }),
         },
-        comma: Some(mark(alloc, ",", 33)?),
-    })?;
-    decls.push(Listed {
-        item: Slot {
-            target: Pattern::Name(name(alloc, "c", 34)?),
-            init: None,
-        },
-        comma: None,
     })?;
     let mut body = Vec::new(alloc);
-    body.push(Stmt::Vars {
-        word: word(alloc, "var", 29)?,
-        decls: Items::from_vec(decls),
-        semi: Some(mark(alloc, ";", 35)?),
+    body.push(Stmt::Return {
+        word: word(alloc, "return", 39)?,
+        value: Some(Boxed::new(alloc, choice(alloc)?)?),
+        semi: Some(mark(alloc, ";", 47)?),
     })?;
-    body.push(Stmt::Plain {
-        value: call(alloc)?,
-        semi: None,
+    body.push(Stmt::Vars {
+        word: word(alloc, "var", 48)?,
+        first: slot(alloc, "g", 49)?,
+        rest: Items::from_vec(rest),
+        semi: Some(mark(alloc, ";", 54)?),
     })?;
     Ok(Function::Keyword {
-        word: word(alloc, "function", 24)?,
-        name: Some(name(alloc, "f", 25)?),
-        params: Params {
-            open: mark(alloc, "(", 26)?,
-            close: mark(alloc, ")", 27)?,
+        word: word(alloc, "function", 30)?,
+        name: Some(name(alloc, "f", 31)?),
+        params: Bracket {
+            open: mark(alloc, "(", 32)?,
+            front: Items::from_vec(front),
+            last: Some(Element {
+                dots: None,
+                value: slot(alloc, "b", 35)?,
+            }),
+            close: mark(alloc, ")", 36)?,
         },
         body: Block {
-            begin: mark(alloc, "{", 28)?,
+            begin: mark(alloc, "{", 37)?,
             body: Items::from_vec(body),
-            end: mark(alloc, "}", 44)?,
+            end: mark(alloc, "}", 55)?,
         },
     })
 }
@@ -231,6 +316,10 @@ fn function(alloc: Global) -> Result<Function, OutOfMemory> {
 fn a_tree_spells_its_tokens(rt: HostRuntime) -> Result<(), Fail> {
     let alloc = rt.alloc();
     let mut body = Vec::new(alloc);
+    body.push(Stmt::Plain {
+        value: Boxed::new(alloc, chain(alloc)?)?,
+        semi: None,
+    })?;
     body.push(Stmt::Fun {
         function: Boxed::new(alloc, function(alloc)?)?,
     })?;
@@ -239,32 +328,13 @@ fn a_tree_spells_its_tokens(rt: HostRuntime) -> Result<(), Fail> {
     };
     let tokens = spell(alloc, &tree)?;
     let want = [
-        ("function", 24),
-        ("f", 25),
-        ("(", 26),
-        (")", 27),
-        ("{", 28),
-        ("var", 29),
-        ("a", 30),
-        ("=", 31),
-        ("b", 32),
-        (",", 33),
-        ("c", 34),
-        (";", 35),
-        ("f", 36),
-        (".", 37),
-        ("g", 38),
-        ("(", 39),
-        ("\"s\"", 40),
-        (",", 41),
-        ("h", 42),
-        (")", 43),
-        ("}", 44),
+        "new", "a", ".", "b", "(", "s", ",", "...", "t", ")", "[", "i", "]", "`a${", "b", "}c`",
+        "(", "s", ",", "...", "t", ")", "function", "f", "(", "a", ",", "b", ")", "{", "return",
+        "c", "?", "d", "+", "e", ":", "f", ";", "var", "g", ",", "h", "=", "x", ";", "}",
     ];
     assert!(rt; tokens.as_slice().len() == want.len());
-    for (token, (text, start)) in tokens.as_slice().iter().zip(want) {
+    for (token, text) in tokens.as_slice().iter().zip(want) {
         assert!(rt; token.text.as_str() == text, "{text}");
-        assert!(rt; token.start == start, "the start of {text}");
     }
     Ok(())
 }
@@ -277,5 +347,106 @@ fn an_empty_tree_spells_no_token(rt: HostRuntime) -> Result<(), Fail> {
     };
     let tokens = spell(alloc, &tree)?;
     assert!(rt; tokens.as_slice().is_empty());
+    Ok(())
+}
+
+// The levels that take the expression are this many, from the weakest on.
+fn reaches(rt: &impl Abort, expr: &Expr, want: usize) -> Result<(), Fail> {
+    let levels = [
+        Level::Comma,
+        Level::Assign,
+        Level::Binary,
+        Level::Unary,
+        Level::Postfix,
+    ];
+    for (at, level) in levels.iter().enumerate() {
+        assert!(rt; admits(*level, expr) == (at < want), "{at} of {want}");
+    }
+    Ok(())
+}
+
+// `- a`
+fn negated(alloc: Global) -> Result<Expr, OutOfMemory> {
+    Ok(Expr::Unary {
+        op: mark(alloc, "-", 0)?,
+        operand: named(alloc, "a", 1)?,
+    })
+}
+
+// `a , b`
+fn listed(alloc: Global) -> Result<Expr, OutOfMemory> {
+    let mut rest = Vec::new(alloc);
+    rest.push(Further {
+        mark: mark(alloc, ",", 1)?,
+        item: named(alloc, "b", 2)?,
+    })?;
+    Ok(Expr::Comma {
+        first: named(alloc, "a", 0)?,
+        rest: Items::from_vec(rest),
+    })
+}
+
+#[test]
+fn levels_take_expressions(rt: HostRuntime) -> Result<(), Fail> {
+    let alloc = rt.alloc();
+    reaches(&rt, &listed(alloc)?, 1)?;
+    reaches(&rt, &choice(alloc)?, 2)?;
+    reaches(&rt, &negated(alloc)?, 4)?;
+    reaches(&rt, &made(alloc)?, 5)?;
+    reaches(&rt, &chain(alloc)?, 5)?;
+    let power = Expr::Power {
+        base: named(alloc, "a", 0)?,
+        op: mark(alloc, "**", 1)?,
+        exponent: named(alloc, "b", 2)?,
+    };
+    reaches(&rt, &power, 3)?;
+    let raised = Expr::Postfix {
+        target: named(alloc, "a", 0)?,
+        op: mark(alloc, "++", 1)?,
+    };
+    reaches(&rt, &raised, 5)?;
+    let assigned = Expr::Assign {
+        target: Boxed::new(alloc, Pattern::Name(name(alloc, "a", 0)?))?,
+        op: mark(alloc, "=", 1)?,
+        value: named(alloc, "b", 2)?,
+    };
+    reaches(&rt, &assigned, 2)?;
+    Ok(())
+}
+
+// The expression in round brackets.
+fn grouped(alloc: Global, inner: Expr) -> Result<Expr, OutOfMemory> {
+    Ok(Expr::Paren {
+        open: mark(alloc, "(", 0)?,
+        inner: Boxed::new(alloc, inner)?,
+        close: mark(alloc, ")", 1)?,
+    })
+}
+
+// `a . b`
+fn member(alloc: Global) -> Result<Expr, OutOfMemory> {
+    let mut tails = Vec::new(alloc);
+    tails.push(Tail::Member {
+        dot: mark(alloc, ".", 1)?,
+        name: name(alloc, "b", 2)?,
+    })?;
+    Ok(Expr::Chain {
+        head: named(alloc, "a", 0)?,
+        tails: Items::from_vec(tails),
+    })
+}
+
+#[test]
+fn names_and_members_are_targets(rt: HostRuntime) -> Result<(), Fail> {
+    let alloc = rt.alloc();
+    let member_in = grouped(alloc, grouped(alloc, member(alloc)?)?)?;
+    let name_in = grouped(alloc, Expr::Name(name(alloc, "a", 0)?))?;
+    assert!(rt; is_target(&member(alloc)?));
+    assert!(rt; is_target(&member_in));
+    assert!(rt; is_target(&name_in));
+    assert!(rt; !is_target(&chain(alloc)?));
+    assert!(rt; !is_target(&made(alloc)?));
+    assert!(rt; !is_target(&grouped(alloc, negated(alloc)?)?));
+    assert!(rt; !is_target(&grouped(alloc, listed(alloc)?)?));
     Ok(())
 }

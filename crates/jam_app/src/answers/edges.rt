@@ -15,7 +15,7 @@ use crate::answers::printed::{Printed, nowhere};
 use crate::loading::links::links_of;
 use crate::loading::loaded::Loaded;
 use crate::loading::parts::{composed, parts_of};
-use crate::loading::text::{TEXT_LIMIT, ascii_text};
+use crate::loading::text::TEXT_LIMIT;
 use composer::Graph;
 use jam_base::{Edge, FunctionRef, List, OutOfMemory, Place, Text};
 use report_text::{PathStep, Shown, graph_text};
@@ -62,22 +62,16 @@ fn printed_module(alloc: Global, one: &Loaded) -> Result<Printed, OutOfMemory>
     requires { IsAnalysed one.now }
     ensures { IfOk result (λ printed. printed ≡ printed_of (module_of one.now)) }
 {
-    let text = place_text(one.bytes.as_slice());
+    let text = place_text(one.text.as_str());
     let functions = one.summary.functions();
     Printed::of(alloc, one.path.as_str(), text, functions)
 }
 
-// The text by which places in a file are told.
-fn place_text(bytes: &[u8]) -> &str
-    ensures { result.now ≡ graphs.place_text bytes.now }
+// The text by which places in a module are told.
+fn place_text(text: &str) -> &str
+    ensures { result.now ≡ graphs.place_text text.now }
 {
-    if bytes.len() > TEXT_LIMIT {
-        return "";
-    }
-    match ascii_text(bytes) {
-        Some(text) => text,
-        None => "",
-    }
+    if text.len() > TEXT_LIMIT { "" } else { text }
 }
 
 /// The edges, as they are printed. Edges of one module that stand together take one walk over its text.

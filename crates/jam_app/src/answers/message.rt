@@ -1,5 +1,6 @@
 //! Refusals with the lines that say them.
 ghost use Rattle.std.specs.Prelude.{◌≡◌, IfOk};
+ghost use Rattle.js_parser.specs.Answers as answers;
 ghost use Rattle.jam_app.specs.Lines as lines;
 ghost use Rattle.jam_app.specs.Stops.{Refuses};
 
@@ -7,6 +8,7 @@ use crate::answers::line::Line;
 use crate::loading::text::TEXT_LIMIT;
 use crate::{Refusal, Stop};
 use jam_base::{ModulePath, OutOfMemory, Place, Text};
+use js_parser::Construct;
 use report_text::escaped;
 use std::alloc::Global;
 
@@ -32,7 +34,7 @@ fn too_many_line(alloc: Global, modules: u32, bytes: u64) -> Result<Text, OutOfM
     Ok(Text::from_string(line))
 }
 
-/// That the file of a module is too large.
+/// That the text of a module is too large.
 pub(crate) fn too_large(alloc: Global, path: ModulePath, length: u64) -> Stop
     ensures { Refuses (Refusal.TooLarge path length) result }
 {
@@ -69,6 +71,43 @@ fn too_wide_line(alloc: Global, size: u128) -> Result<Text, OutOfMemory>
 {
     let line = format!(in alloc; "jam: too wide: {size}\n")?;
     Ok(Text::from_string(line))
+}
+
+/// That no tree spells the text of a module, which reading left at the place, at the word of a construct.
+pub(crate) fn at_construct(alloc: Global, path: ModulePath, place: Place, what: Construct) -> Stop
+    ensures { Refuses (Refusal.Construct path place.offset what) result }
+{
+    let line = Line::of(construct_line(alloc, path.as_str(), place.line, place.column, what));
+    let at = place.offset;
+    Stop::Refused(Refusal::Construct { path, at, what }, line)
+}
+
+fn construct_line(
+    alloc: Global,
+    path: &str,
+    line: u32,
+    column: u32,
+    what: Construct,
+) -> Result<Text, OutOfMemory>
+    ensures { IfOk result (λ made. made ≡ lines.construct_line path.now line column what) }
+{
+    let place = place_text(alloc, path, line, column)?;
+    let place = place.as_str();
+    let word = word_of(what);
+    let line = format!(in alloc; "jam: {place}: {word}\n")?;
+    Ok(Text::from_string(line))
+}
+
+// The word of a construct.
+fn word_of(what: Construct) -> &'static str
+    ensures { result.now ≡ answers.word_of what }
+{
+    match what {
+        Construct::Eval => "eval",
+        Construct::With => "with",
+        Construct::Import => "import",
+        Construct::Export => "export",
+    }
 }
 
 /// That no tree spells the text of a module, which reading left at the place.

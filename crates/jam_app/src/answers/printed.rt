@@ -1,6 +1,6 @@
 //! What is printed of a module.
 ghost use Rattle.std.specs.Prelude.{◌≡◌, ◌<◌, ℕ, List, length, map, All, IfOk, Some, None, slice_get, unwrap_or};
-ghost use Rattle.std.specs.Str.{IsAscii, IsCharBoundary};
+ghost use Rattle.std.specs.Str.{IsCharBoundary};
 ghost use Rattle.jam_app.specs.Graphs.{nowhere, shown_at};
 ghost use Rattle.jam_app.specs.Printing.{spot_at, spot_of};
 
@@ -10,7 +10,7 @@ use report_text::{PathStep, Shown};
 use std::alloc::Global;
 use std::marker::Model;
 
-/// What is printed of a module: its path, its text, which is ASCII, and its functions.
+/// What is printed of a module: its path, the text by which its places are told, and its functions.
 #[derive(Drop)]
 pub(crate) struct Printed {
     path: Text,
@@ -20,14 +20,13 @@ pub(crate) struct Printed {
 
 impl Model for Printed {
     ghost use Rattle.std.specs.Prelude.{◌<◌, length};
-    ghost use Rattle.std.specs.Str.{IsAscii};
     ghost use Rattle.jam_app.specs.Printing.{PrintedModule};
 
     ghost Value = { PrintedModule };
 
     ghost view = { λ m. record { path = m.path; text = m.text; functions = m.functions.items } };
 
-    ghost invariant = { λ m. IsAscii m.text × (length m.text < 4294967295) };
+    ghost invariant = { λ m. length m.text < 4294967295 };
 }
 
 impl Printed {
@@ -38,8 +37,7 @@ impl Printed {
         text: &str,
         functions: &[FunctionInfo],
     ) -> Result<Printed, OutOfMemory>
-        requires ascii { IsAscii text.now }
-        requires short { length text.now < 4294967295 }
+        requires { length text.now < 4294967295 }
         ensures path { IfOk result (λ made. made.path ≡ path.now) }
         ensures text { IfOk result (λ made. made.text ≡ text.now) }
         ensures functions { IfOk result (λ made. made.functions ≡ map (shown_at path.now text.now) functions.now) }
@@ -58,14 +56,14 @@ impl Printed {
         self.path.as_str()
     }
 
-    /// Where the offsets are; one past the end counts as the end.
+    /// Where the offsets are; one past the end counts as the end, and one within a character as its front.
     pub(crate) fn places(&self, alloc: Global, offsets: &[u32]) -> Result<Vec<Place>, OutOfMemory>
         ensures { IfOk result (λ places. map spot_of places.items ≡ map (spot_at self.now.text) offsets.now) }
     {
         places_within(alloc, self.text.as_str(), offsets)
     }
 
-    /// Where an offset is; one past the end counts as the end.
+    /// Where an offset is; one past the end counts as the end, and one within a character as its front.
     pub(crate) fn place(&self, offset: u32) -> Place
         ensures { spot_of result ≡ spot_at self.now.text offset }
     {
@@ -125,8 +123,7 @@ fn shown_functions(
     text: &str,
     functions: &[FunctionInfo],
 ) -> Result<Vec<Shown>, OutOfMemory>
-    requires ascii { IsAscii text.now }
-    requires short { length text.now < 4294967295 }
+    requires { length text.now < 4294967295 }
     ensures { IfOk result (λ made. made.items ≡ map (shown_at path.now text.now) functions.now) }
 {
     let starts = starts_of(alloc, functions)?;
@@ -168,36 +165,33 @@ fn starts_of(alloc: Global, functions: &[FunctionInfo]) -> Result<Vec<u32>, OutO
     )
 }
 
-// Where the offsets are; one past the end counts as the end.
+// Where the offsets are; one past the end counts as the end, and one within a character as its front.
 fn places_within(alloc: Global, text: &str, offsets: &[u32]) -> Result<Vec<Place>, OutOfMemory>
-    requires ascii { IsAscii text.now }
-    requires short { length text.now < 4294967295 }
+    requires { length text.now < 4294967295 }
     ensures { IfOk result (λ places. map spot_of places.items ≡ map (spot_at text.now) offsets.now) }
 {
     let within = within(alloc, text, offsets)?;
     places_of(alloc, text, within.as_slice())
 }
 
-// Where an offset is; one past the end counts as the end.
+// Where an offset is; one past the end counts as the end, and one within a character as its front.
 fn place_within(text: &str, offset: u32) -> Place
-    requires ascii { IsAscii text.now }
-    requires short { length text.now < 4294967295 }
+    requires { length text.now < 4294967295 }
     ensures { spot_of result ≡ spot_at text.now offset }
 {
-    place_of(text, (offset as usize).min(text.len()) as u32)
+    place_of(text, text.floor_char_boundary(offset as usize) as u32)
 }
 
-// The offsets, where one past the end counts as the end.
+// The offsets, where one past the end counts as the end, and one within a character as its front.
 fn within(alloc: Global, text: &str, offsets: &[u32]) -> Result<Vec<u32>, OutOfMemory>
-    requires ascii { IsAscii text.now }
-    requires short { length text.now < 4294967295 }
+    requires { length text.now < 4294967295 }
     ensures spots { IfOk result (λ made. map (spot_at text.now) made.items ≡ map (spot_at text.now) offsets.now) }
     ensures below { IfOk result (λ made. All (λ offset. offset < 4294967295) made.items) }
     ensures boundaries { IfOk result (λ made. All (IsCharBoundary text.now) made.items) }
 {
     let mut made = Vec::new(alloc);
     for offset in offsets {
-        made.push((*offset as usize).min(text.len()) as u32)?;
+        made.push(text.floor_char_boundary(*offset as usize) as u32)?;
     }
     Ok(made)
 }

@@ -1,6 +1,7 @@
 //! Why a request is refused.
 use advisory_reader::AdvisoryFault;
 use jam_base::ModulePath;
+use js_parser::Construct;
 use lock_reader::LockFault;
 
 /// Why a request is refused.
@@ -16,22 +17,31 @@ pub enum Refusal {
     Advisory(AdvisoryFault),
     /// The entry isn't a file that can be one.
     NoEntry,
-    /// The application has more than 16,384 modules, or their files have more than 67,108,864 bytes
+    /// The application has more than 16,384 modules, or their texts have more than 67,108,864 bytes
     /// together.
     TooMany {
         /// How many modules there are up to the first that is one too many, with it.
         modules: u32,
-        /// How many bytes their files have together. The file of module 16,385 isn't read, and counts as 0.
+        /// How many bytes their texts have together. The file of module 16,385 isn't read, and counts as 0.
         bytes: u64,
     },
-    /// The file of a module has more than 8,388,608 bytes.
+    /// The text of a module has more than 8,388,608 bytes.
     TooLarge {
         /// The path of the module.
         path: ModulePath,
-        /// How many bytes its file has.
+        /// How many bytes its text has.
         length: u64,
     },
-    /// No tree spells the text of a module.
+    /// No tree spells the text of a module, and reading stopped at a construct that the profile leaves out.
+    Construct {
+        /// The path of the module.
+        path: ModulePath,
+        /// The offset in bytes, from 0, of the construct's word.
+        at: u32,
+        /// Which one.
+        what: Construct,
+    },
+    /// No tree spells the text of a module, and reading stopped elsewhere.
     NotInProfile {
         /// The path of the module.
         path: ModulePath,

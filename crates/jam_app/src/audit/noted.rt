@@ -92,7 +92,7 @@ pub(crate) fn noted_of(alloc: Global, owned: bool, one: &Loaded) -> Result<Vec<N
     push_unowned(&mut made, owned)?;
     push_own(&mut made, one.summary.notes())?;
     push_missing(alloc, &mut made, one.missing.as_slice())?;
-    push_skipped(&mut made, one.skipped, one.bytes.len())?;
+    push_skipped(&mut made, one.skipped, one.text.as_str().len())?;
     ascending(alloc, made)
 }
 
@@ -110,7 +110,7 @@ fn push_unowned(made: &mut Vec<Noted>, owned: bool) -> Result<(), OutOfMemory>
     Ok(())
 }
 
-// Adds that a module is skipped whose file has so many bytes, if it is.
+// Adds that a module is skipped whose text has so many bytes, if it is.
 fn push_skipped(made: &mut Vec<Noted>, skipped: bool, length: usize) -> Result<(), OutOfMemory>
     ensures { OnOk result (made.new.items ≡ made.old.items ++ notes.skip_noted skipped length) }
 {
@@ -124,7 +124,7 @@ fn push_skipped(made: &mut Vec<Noted>, skipped: bool, length: usize) -> Result<(
     Ok(())
 }
 
-// Why a module is skipped whose file has so many bytes.
+// Why a module is skipped whose text has so many bytes.
 fn skipped_for(length: usize) -> Remark
     ensures { result ≡ notes.skipped_for length }
 {

@@ -10,13 +10,13 @@ pub(crate) struct Application {
     pub(crate) modules: Vec<Loaded>,
 }
 
-/// A loaded module: its path, the bytes of its file, its tree and whether that is the empty one of a
+/// A loaded module: its path, the text of its file, its tree and whether that is the empty one of a
 /// module that is skipped, what is kept of what the tree says of its values, and, by their offsets, where
 /// its requires lead and which of them lead nowhere.
 #[derive(Debug, Drop)]
 pub(crate) struct Loaded {
     pub(crate) path: ModulePath,
-    pub(crate) bytes: Vec<u8>,
+    pub(crate) text: Text,
     pub(crate) tree: Tree,
     pub(crate) skipped: bool,
     pub(crate) summary: Summary,

@@ -8,7 +8,7 @@ ghost use Rattle.jam_app.specs.Texts.{IsBad};
 ghost use Rattle.jam_app.specs.Stops.{CountsFaults, Gives, HasBadCause, HasStopCause, StopsFor};
 
 use crate::Stop;
-use crate::answers::message::{not_in_profile, too_large};
+use crate::answers::message::{at_construct, not_in_profile, too_large};
 use crate::loading::ends::{Ends, ends_of};
 use crate::loading::loaded::Loaded;
 use crate::loading::source::Source;
@@ -38,6 +38,7 @@ fn stop_for(alloc: Global, path: ModulePath, bad: Bad) -> Stop
 {
     match bad {
         Bad::TooLarge(length) => too_large(alloc, path, length),
+        Bad::Construct(place, what) => at_construct(alloc, path, place, what),
         Bad::At(place) => not_in_profile(alloc, path, place),
         Bad::OutOfMemory => Stop::OutOfMemory,
     }
@@ -53,7 +54,7 @@ struct Parsed {
 
 // A file whose text has no tree, where that is no want of memory and such files are skipped.
 fn skipped_file(alloc: Global, source: Source) -> Parsed
-    requires { IsBad source.bytes.items }
+    requires { IsBad source.text }
     ensures source { result.source ≡ source }
     ensures parsed { IsParsed true result }
 {
@@ -74,9 +75,9 @@ fn parsed_file<L: Ledger>(
     steps: &mut Steps<L>,
 ) -> Result<Parsed, Stop>
     ensures ok { IfOk result (λ p. (p.source ≡ source) × IsParsed skip p) }
-    ensures err { IfErr result (λ stop. (files : Option Files) (before now : ℕ) → HasStopCause (λ m owed. (skip ≡ false) × IsRefusedFor source.path source.bytes.items owed) files before now stop) }
+    ensures err { IfErr result (λ stop. (files : Option Files) (before now : ℕ) → HasStopCause (λ m owed. (skip ≡ false) × IsRefusedFor source.path source.text owed) files before now stop) }
 {
-    match tree_of(alloc, source.bytes.as_slice(), steps) {
+    match tree_of(alloc, source.text.as_str(), steps) {
         Ok(tree) => Ok(Parsed {
             source,
             tree,
@@ -88,15 +89,16 @@ fn parsed_file<L: Ledger>(
 
 // What a file without a tree means: it is skipped, unless such files aren't, or there was no memory.
 fn without_tree(alloc: Global, source: Source, skip: bool, bad: Bad) -> Result<Parsed, Stop>
-    requires { HasBadCause source.bytes.items bad }
+    requires { HasBadCause source.text bad }
     ensures ok { IfOk result (λ p. (p.source ≡ source) × IsParsed skip p) }
-    ensures err { IfErr result (λ stop. (files : Option Files) (before now : ℕ) → HasStopCause (λ m owed. (skip ≡ false) × IsRefusedFor source.path source.bytes.items owed) files before now stop) }
+    ensures err { IfErr result (λ stop. (files : Option Files) (before now : ℕ) → HasStopCause (λ m owed. (skip ≡ false) × IsRefusedFor source.path source.text owed) files before now stop) }
 {
     if !skip {
         return Err(stop_for(alloc, source.path, bad));
     }
     match bad {
         Bad::TooLarge(_) => Ok(skipped_file(alloc, source)),
+        Bad::Construct(_, _) => Ok(skipped_file(alloc, source)),
         Bad::At(_) => Ok(skipped_file(alloc, source)),
         Bad::OutOfMemory => Err(Stop::OutOfMemory),
     }
@@ -137,11 +139,11 @@ fn module_with<F: Folder>(alloc: Global, folder: &mut F, parsed: Parsed) -> Resu
         tree,
         skipped,
     } = parsed;
-    let Source { path, bytes } = source;
+    let Source { path, text } = source;
     let Ends { targets, missing } = ends;
     Ok(Loaded {
         path,
-        bytes,
+        text,
         tree,
         skipped,
         summary,

@@ -6,21 +6,21 @@ ghost use Rattle.jam_app.specs.Entries as entries;
 ghost use Rattle.jam_app.specs.Entries.{begun};
 ghost use Rattle.jam_app.specs.Reading.{HasExcess, IsExcess, file_at, file_of, size_of};
 ghost use Rattle.jam_app.specs.Refusals.{IsLoadRefusal};
-ghost use Rattle.jam_app.specs.Rounds.{byte_limit, bytes_at, module_limit};
+ghost use Rattle.jam_app.specs.Rounds.{byte_limit, bytes_at, module_limit, text_at};
 ghost use Rattle.jam_app.specs.Stops.{CountsFaults, Gives};
 
 use crate::Stop;
 use crate::answers::message::{no_entry, too_many};
 use crate::loading::size::{BYTE_LIMIT, MODULE_LIMIT, Size};
-use jam_base::{Folder, ModulePath, ReadFailed};
+use jam_base::{Folder, ModulePath, ReadFailed, Text, decode_source};
 use node_resolve::{ResolveFault, Target, entry_of};
 use std::alloc::Global;
 
-/// A module's file: its path and its bytes.
+/// A module's file: its path and its text.
 #[derive(Debug, Drop)]
 pub(crate) struct Source {
     pub(crate) path: ModulePath,
-    pub(crate) bytes: Vec<u8>,
+    pub(crate) text: Text,
 }
 
 /// The path of a target that is a module.
@@ -87,6 +87,18 @@ fn bytes_of<F: Folder>(alloc: Global, folder: &mut F, path: &ModulePath) -> Resu
     }
 }
 
+// The text of the file at a path.
+fn text_of<F: Folder>(alloc: Global, folder: &mut F, path: &ModulePath) -> Result<Text, Stop>
+    ensures gives { Gives (λ m text. text ≡ text_at m path.now)
+        (λ m owed. ⊥) (F.files folder.old) (F.faults folder.old) (F.faults folder.new) result }
+    ensures same { F.files folder.new ≡ F.files folder.old }
+    ensures counts { CountsFaults (F.faults folder.old) (F.faults folder.new) result }
+{
+    let bytes = bytes_of(alloc, folder, path)?;
+    let text = decode_source(alloc, bytes.as_slice())?;
+    Ok(text)
+}
+
 // Reads the file at a path, unless there is no room for one more module.
 fn read_next<F: Folder>(
     alloc: Global,
@@ -111,8 +123,8 @@ fn read_next<F: Folder>(
     if modules > MODULE_LIMIT {
         return Err(too_many(alloc, modules, size.bytes));
     }
-    let bytes = bytes_of(alloc, folder, &path)?;
-    let total = size.bytes + bytes.len() as u64;
+    let text = text_of(alloc, folder, &path)?;
+    let total = size.bytes + text.as_str().len() as u64;
     if total > BYTE_LIMIT {
         return Err(too_many(alloc, modules, total));
     }
@@ -120,7 +132,7 @@ fn read_next<F: Folder>(
         modules,
         bytes: total,
     };
-    Ok(Source { path, bytes })
+    Ok(Source { path, text })
 }
 
 /// Reads the files of a round, and adds to the size of what is loaded.

@@ -2,8 +2,8 @@ use Rattle.std.proofs.Common.{◌≡◌, ◌++◌, drop}
 use Rattle.flow_rules.specs.Calls.{argument_flows}
 use Rattle.flow_rules.proofs.calls.push_arguments.Given as goal
 
-abbrev pub invariant-loop-value : goal.invariant-loop-value
-invariant-loop-value l = record {
-  place : l.index ≡ l.value-index;
-  more : l.out.items ++ argument_flows l.offset l.part l.index (drop l.value-index l.values) ≡ l.initial.out.items ++ argument_flows l.offset l.part 0 l.values;
+abbrev pub invariant-loop-argument : goal.invariant-loop-argument
+invariant-loop-argument l = record {
+  place : l.index ≡ l.argument-index;
+  more : l.out.items ++ argument_flows l.offset l.part l.index (drop l.argument-index l.args) ≡ l.initial.out.items ++ argument_flows l.offset l.part 0 l.args;
 }

@@ -5,7 +5,7 @@ use Rattle.std.proofs.lemmas.List.Sorted.{IsNonDecreasingBy-from_sort}
 use Rattle.std.proofs.lemmas.Result.{IfOk-weaker}
 use Rattle.js_tree.specs.declared.token.Token.{Token}
 use Rattle.js_scopes.specs.Names.{Scope, local_number}
-use Rattle.js_scopes.specs.Scopes.{body_scope, meaning, module_scope, names_in, names_of, numbering_of}
+use Rattle.js_scopes.specs.Scopes.{meaning, module_scope, names_in, names_of, numbering_of, scope_of}
 use Rattle.js_tree.specs.Parts.{ABody}
 use Rattle.js_tree.specs.Tokens.{IsInText}
 use Rattle.js_tree.proofs.TextLemmas.{spelled}
@@ -20,8 +20,8 @@ names_in-requires-clause-starts c = subst IsNonDecreasing (sym c.as_slice-3.ensu
 pub inner_functions-requires : goal.inner_functions-requires
 inner_functions-requires c = spelled c.requires.0 c.args.tree.now c.requires.1
 
-pub body_scope-requires : goal.body_scope-requires
-body_scope-requires c = subst (λ xs. IsInText (ABody xs)) (sym c.as_slice.ensures) (spelled c.requires.0 c.args.tree.now c.requires.1)
+pub scope_of-requires : goal.scope_of-requires
+scope_of-requires c = subst (λ xs. IsInText (ABody xs)) (sym c.as_slice.ensures) (spelled c.requires.0 c.args.tree.now c.requires.1)
 
 pub first_tokens-requires : goal.first_tokens-requires
 first_tokens-requires c = spelled c.requires.0 c.args.tree.now c.requires.1
@@ -32,7 +32,7 @@ names_in-requires-clause-spelled c = spelled c.requires.0 c.args.tree.now c.requ
 pub names_in-requires-clause-few_starts : goal.names_in-requires-clause-few_starts
 names_in-requires-clause-few_starts c =
     let tree = c.args.tree.now in
-    let scope : c.in_ok-scope.scope ≡ module_scope tree = c.in_ok-scope.ensures {u = tt} ∙ ap (body_scope true) c.as_slice.ensures in
+    let scope : c.in_ok-scope.scope ≡ module_scope tree = c.in_ok-scope.ensures {u = tt} ∙ ap (λ b. scope_of true (ABody b)) c.as_slice.ensures in
     let all : c.in_ok-starts.starts.items ≡ local_starts (module_scope tree) tree = c.in_ok-starts.ensures {u = tt} ∙ ap (λ s. local_starts s tree) scope in
     let few = few_locals tree (spelled c.requires.0 tree c.requires.1) in
     let a = ap (λ (xs : List ℕ). length xs) all in
@@ -43,7 +43,7 @@ names_in-requires-clause-few_starts c =
 pub returns : goal.returns
 returns c =
     let tree = c.args.tree.now in
-    let scope : c.in_ok-scope.scope ≡ module_scope tree = c.in_ok-scope.ensures {u = tt} ∙ ap (body_scope true) c.as_slice.ensures in
+    let scope : c.in_ok-scope.scope ≡ module_scope tree = c.in_ok-scope.ensures {u = tt} ∙ ap (λ b. scope_of true (ABody b)) c.as_slice.ensures in
     let functions : (numbering_of tree).functions ≡ c.as_slice-2.result.now = sym (c.as_slice-2.ensures.value ∙ c.in_ok-functions.ensures.made) in
     let locals : (t : Token) → local_number (numbering_of tree) t ≡ count_by (λ s. nat_lt s t.start) c.as_slice-3.result.now
     = λ t.

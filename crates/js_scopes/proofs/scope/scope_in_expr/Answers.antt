@@ -5,7 +5,8 @@ use Rattle.js_tree.specs.declared.tree.Function.{Function}
 use Rattle.js_tree.specs.declared.tree.Expr.{out-Expr}
 use Rattle.js_tree.specs.declared.tree.Expr.TheVariants.{outs-Fun}
 use Rattle.js_tree.specs.Folds.{ExprLayer}
-use Rattle.js_scopes.specs.Scopes.{own_name, scope_in_expr}
+use Rattle.js_scopes.specs.Functions.{own_name}
+use Rattle.js_scopes.specs.Scopes.{scope_in_expr}
 use Rattle.js_scopes.proofs.Layers.{is-Fun}
 use Rattle.js_scopes.proofs.scope.scope_in_expr.Goals as goal
 

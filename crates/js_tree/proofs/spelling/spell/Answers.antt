@@ -4,7 +4,8 @@ use Rattle.js_tree.specs.declared.line.LineItem.TheVariants as given
 use Rattle.js_tree.specs.declared.node.Node.TheVariants as node
 use Rattle.js_tree.specs.Parts.{left_in}
 use Rattle.js_tree.specs.Line.{item_of, tokens_at}
-use Rattle.js_tree.specs.Spelling.{tokens, stmts}
+use Rattle.js_tree.specs.Pieces.{tokens}
+use Rattle.js_tree.specs.Spelling.{stmts}
 use Rattle.js_tree.proofs.LineLemmas.{body_tokens}
 use Rattle.js_tree.proofs.WalkLemmas.{left_last}
 use Rattle.js_tree.proofs.spelling.spell.Goals as goal

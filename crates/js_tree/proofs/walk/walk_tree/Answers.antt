@@ -1,4 +1,4 @@
-use Rattle.std.proofs.Common.{◌++◌, [], ◌∷◌, refl, subst, map, ap, sym, ◌∙◌, append_assoc}
+use Rattle.std.proofs.Common.{◌≡◌, ◌++◌, [], ◌∷◌, refl, subst, map, ap, sym, ◌∙◌, append_assoc}
 use Rattle.std.specs.List.{AllByRecursion}
 use Rattle.js_tree.specs.Tokens.{IsInText}
 use Rattle.js_tree.proofs.GatherLemmas.{each_back, each_front}
@@ -27,3 +27,14 @@ visit-requires g c =
     let rest = c.pop.new.self.items in
     let last = c.in-Some.next ∷ [] in
     λ k. ((refl, tt), (c.loop-next.invariant.empty, ((each_back P rest last all).0, each_front P rest last all)))
+
+pub loop-next-init : goal.loop-next-init
+loop-next-init g c =
+    let give = λ (p : Pending g.row.G-Around.Denot). gathered (g.G.Gather.own c.args.by.now) (g.G.Gather.inside c.args.by.now) (node_of p.node) (g.G.Gather.place p.around) in
+    let first : Pending g.row.G-Around.Denot = record { node = c.args.node; around = c.args.around } in
+    let e : c.push.new.self.items ≡ first ∷ [] = (c.in_ok-push.ensures {u = tt}).items ∙ ap (λ ps. ps ++ first ∷ []) c.new-left.ensures.items in
+    record {
+      empty = c.new-parts.ensures.items;
+      left = subst (AllByRecursion (λ (p : Pending g.row.G-Around.Denot). IsInText (node_of p.node))) (sym e) (c.requires, tt);
+      gathers = ap (λ ps. map g.G.Gather.given c.args.out.now.items ++ left_in give ps) e;
+    }

@@ -1,4 +1,4 @@
-use Rattle.std.proofs.Common.{◌≡◌, ◌++◌, List, [], map, ap, ◌∙◌}
+use Rattle.std.proofs.Common.{◌≡◌, ◌++◌, List, [], length, map, ap, ◌∙◌}
 use Rattle.std.proofs.lemmas.Result.{IfOk-weaker}
 use Rattle.jam_base.specs.Ascending.{ascending}
 use Rattle.flow_rules.specs.declared.module.ModuleNote.{ModuleNote}
@@ -16,5 +16,5 @@ returns c =
     let missing : map missing_noted c.as_slice.result.now ≡ map missing_noted one.missing.items = ap (map missing_noted) c.as_slice.ensures.value in
     let all : c.push_skipped.new.made.items ≡ all_noted owned one
     = c.in_ok-push_skipped.ensures
-    ∙ (λ i. (c.in_ok-push_missing.ensures ∙ (λ j. (c.in_ok-push_own.ensures ∙ (λ k. first k ++ own k)) j ++ missing j)) i ++ skip_noted one.skipped ((c.len.ensures ∙ one.bytes.ok.0) i)) in
+    ∙ (λ i. (c.in_ok-push_missing.ensures ∙ (λ j. (c.in_ok-push_own.ensures ∙ (λ k. first k ++ own k)) j ++ missing j)) i ++ skip_noted one.skipped (ap length c.as_str.ensures i)) in
     IfOk-weaker c.ascending.result _ _ (λ made e. e ∙ ap (ascending noted_order) all) c.ascending.ensures

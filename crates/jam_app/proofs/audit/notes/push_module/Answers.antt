@@ -19,7 +19,7 @@ returns-then-is_empty c =
     let old = c.args.notes.now.items in
     let owned : c.is_some-owned.result ≡ is_owned entries one.path = c.is_some-owned.ensures ∙ owned_is entries one.path c.owner_place.result c.owner_place.ensures in
     let none : noted ≡ [] = is_nothing noted _ c.is_empty.result c.in_ok-noted.noted.ok.0 c.is_empty.ensures c.if-is_empty.true in
-    let notes : loaded_notes entries one ≡ [] = sym (noted_is entries one c.is_some-owned.result noted owned c.in_ok-noted.ensures) ∙ ap (map (note_at one.path (place_text one.bytes.items))) none in
+    let notes : loaded_notes entries one ≡ [] = sym (noted_is entries one c.is_some-owned.result noted owned c.in_ok-noted.ensures) ∙ ap (map (note_at one.path (place_text one.text))) none in
     sym (append-nil old) ∙ ap (λ (ns : List Note). old ++ ns) (sym notes)
 
 pub push_noted-requires : goal.push_noted-requires
@@ -38,7 +38,7 @@ returns c =
     let one = c.args.one.now in
     let printed = c.args.printed.now in
     let noted = c.in_ok-noted.noted.items in
-    let text = place_text one.bytes.items in
+    let text = place_text one.text in
     let text_is : printed.text ≡ text = ap (λ (p : PrintedModule). p.text) c.requires.printed in
     let path_is : c.path.result.now ≡ one.path = c.path.ensures ∙ ap (λ (p : PrintedModule). p.path) c.requires.printed in
     let owned : c.is_some-owned.result ≡ is_owned entries one.path = c.is_some-owned.ensures ∙ owned_is entries one.path c.owner_place.result c.owner_place.ensures in

@@ -1,48 +1,61 @@
-use Rattle.std.proofs.Common.{true, refl, sym, ap, ◌∙◌, ◌+◌, ◌-◌, List, subst, arith}
-use Rattle.js_tree.proofs.SpellingLemmas.{stmt_height_some, at-Fun}
-use Rattle.js_tree.specs.Spelling.{Piece, Seen, is_declared, stmt}
-use Rattle.js_tree.specs.Spelling as spec
+use Rattle.std.proofs.Common.{◌+◌, ◌-◌, ℕ, true, false, true≢false, is_some, refl, subst, sym, ap, ◌∙◌, arith, List}
+use Rattle.js_tree.specs.Pieces.{Piece}
+use Rattle.js_tree.specs.Spelling as spelling
 use Rattle.js_tree.specs.declared.tree.Function.{Function}
 use Rattle.js_tree.specs.declared.tree.Stmt.{Stmt}
-use Rattle.js_tree.specs.declared.tree.Stmt.TheVariants as statement
-use Rattle.js_parser.proofs.ExitLemmas.{exit}
-use Rattle.js_parser.proofs.PlaceLemmas.{moved, passes_none}
-use Rattle.js_parser.proofs.RuleLemmas.{FunView, fun_view}
-use Rattle.js_parser.specs.Nodes.{FunctionAt, StmtAt}
-use Rattle.js_parser.specs.Reading.{Reads}
+use Rattle.js_tree.specs.declared.tree.Stmt.TheVariants as made
+use Rattle.js_tokens.specs.Pieces.{Reads}
+use Rattle.js_parser.proofs.PlaceLemmas.{passes_none}
+use Rattle.js_parser.proofs.ReadLemmas.{want, failed, refused_here}
+use Rattle.js_parser.proofs.StmtLemmas.{FunView, fun_made, fun_tall, stmt_view}
+use Rattle.js_parser.specs.Nodes.{FunctionAt, StmtAt, stmt_line}
+use Rattle.js_parser.specs.declared.kinds.Statement.TheVariants as sorts
 use Rattle.js_parser.specs.declared.tall.Tall.{Tall}
 use Rattle.js_parser.proofs.grammar.Grammar.declaration.Goals as goal
 
 abbrev tall : Function → Tall Function
-tall f = record { node = f; height = (spec.function f).height }
+tall f = record { node = f; height = (spelling.function f).height }
 
-function_at : (p : _) (x : Tall Stmt) (rest : List Piece) (room : _) (v : FunView p x.node rest) → StmtAt room x → FunctionAt true (room - 1) (tall v.function)
-function_at p x rest room v at = record { role = v.role; height = refl; fits = omega (arith, v.height, at.height, at.fits) }
+function_at : (room : ℕ) (p : _) (x : Tall Stmt) (rest : List Piece) (v : FunView p x.node rest) → StmtAt room x → FunctionAt (room - 1) (tall v.declared)
+function_at room p x rest v at = record { height = refl; fits = omega (arith, v.height, at.height, at.fits) }
 
-pub returns-then-room-eq0-clause-only : goal.returns-then-room-eq0-clause-only
-returns-then-room-eq0-clause-only g c x rest r at _ = absurd (omega (arith, at.height, stmt_height_some x.node, at.fits, c.if-room-eq0.true))
+pub returns-in_err-node : goal.returns-in_err-node
+returns-in_err-node g c = record {
+  reads = failed _ _ _ _ _ _ _ _ (passes_none _) c.in_err-node.ensures.reads.moves
+      (λ x rest r at s.
+      let v = stmt_view sorts.Function _ x.node rest c.requires.told r in
+      want _ _ _ (c.in_err-node.ensures.reads.only (tall v.declared) rest v.read (function_at _ _ x rest v at) tt)) c.from_residual.ensures.1;
+}
 
-pub returns-in_err-node-clause-only : goal.returns-in_err-node-clause-only
-returns-in_err-node-clause-only g c x rest r at _ =
-    let v = fun_view c.args.lexer.now x.node rest c.requires.seen r in
-    exit _ _ (tall v.function) x _ _ c.from_residual.ensures.1 (c.in_err-node.ensures.only (tall v.function) rest v.read (function_at _ x rest c.args.room v at) tt)
+pub returns-then-not-is_named : goal.returns-then-not-is_named
+returns-then-not-is_named g c = record {
+  reads = refused_here _ _ _ _ _ _ c.refusal-refusal.ensures
+      (λ x rest r at s.
+      let v = stmt_view sorts.Function _ x.node rest c.requires.told r in
+      let g0 = c.in_ok-node.ensures.reads.only (tall v.declared) rest v.read (function_at _ _ x rest v at) tt in
+      true≢false (sym v.named ∙ ap (λ (t : Tall Function). is_some (spelling.function t.node).name) (sym g0.0) ∙ sym c.is_named.ensures ∙ c.if-not-is_named.true));
+}
 
-pub returns-in_err-node-clause-moves : goal.returns-in_err-node-clause-moves
-returns-in_err-node-clause-moves g c = moved _ _ _ _ _ (passes_none _) c.in_err-node.ensures.moves c.from_residual.ensures.1
-
-pub returns-clause-only : goal.returns-clause-only
-returns-clause-only g c x rest r at _ =
-    let v = fun_view c.args.lexer.now x.node rest c.requires.seen r in
-    let g0 = c.in_ok-node.ensures.only (tall v.function) rest v.read (function_at _ x rest c.args.room v at) tt in
-    let h = at.height ∙ v.height in
-    let n = ap statement.Fun (c.in_ok-function.ensures ∙ ap (λ (t : Tall Function). t.node) g0.0) ∙ sym v.node in
-    let k = ap (λ (t : Tall Function). t.height + 1) g0.0 ∙ sym h in
-    (λ i. record { node = n i; height = k i }, g0.1)
-
-pub returns-clause-found : goal.returns-clause-found
-returns-clause-found g c =
-    let w = c.in_ok-node.ensures.found.1 in
-    let s = ap (λ (f : Function). stmt (statement.Fun f)) c.in_ok-function.ensures ∙ at-Fun c.in_ok-node.field-0.node in (
-      λ rest r. subst (λ (t : Seen). Reads c.args.lexer.now (t.line rest)) (sym s) (ap is_declared w.role, c.in_ok-node.ensures.found.0 rest r),
-      record { height = ap (λ n. n + 1) w.height ∙ sym (ap (λ (t : Seen). t.height) s); fits = omega (arith, w.fits, c.if-room-eq0.false) },
-    )
+pub returns : goal.returns
+returns g c = record {
+  reads = record {
+    found = (
+      λ rest r.
+          subst (λ (f : Function). Reads c.args.reader.now (stmt_line (made.Fun f) rest)) (sym c.in_ok-function.ensures)
+          (fun_made c.args.reader.now c.in_ok-node.field-0.node rest (sym c.is_named.ensures ∙ c.if-not-is_named.false) (c.in_ok-node.ensures.reads.found.0 rest r)),
+      let w = c.in_ok-node.ensures.reads.found.1 in
+          let h = fun_tall c.in_ok-node.field-0.node in
+          let e = ap (λ (f : Function). (spelling.stmt (made.Fun f)).height) c.in_ok-function.ensures in
+          record { height = omega (arith, e, h, w.height); fits = omega (arith, w.fits, c.requires.some) },
+    );
+    only = λ x rest r at s.
+        let v = stmt_view sorts.Function _ x.node rest c.requires.told r in
+        let g0 = c.in_ok-node.ensures.reads.only (tall v.declared) rest v.read (function_at _ _ x rest v at) tt in
+        let n = ap made.Fun (c.in_ok-function.ensures ∙ ap (λ (t : Tall Function). t.node) g0.0) ∙ sym v.node in
+        let h = at.height ∙ v.height in
+        let k = ap (λ (t : Tall Function). t.height + 1) g0.0 ∙ sym h in
+        (λ i. record { node = n i; height = k i }, g0.1);
+    moves = c.in_ok-node.ensures.reads.moves;
+    shorter = c.in_ok-node.ensures.reads.shorter;
+  };
+}

@@ -1,66 +1,63 @@
-use Rattle.std.proofs.Common.{arith, refl, sym, ap, ◌∙◌, ◌+◌, ◌-◌, List, subst, Some}
-use Rattle.js_tree.proofs.SpellingLemmas.{at-Plain}
-use Rattle.js_tree.specs.Spelling.{Seen, Piece, expr, one, begins_plain}
-use Rattle.js_tree.specs.declared.kind.TheConstants.{SEMICOLON}
-use Rattle.js_tree.specs.declared.tree.Expr.{Expr}
+use Rattle.std.proofs.Common.{◌+◌, ◌-◌, ℕ, refl, sym, ◌∙◌, arith, List, Some}
+use Rattle.js_tree.specs.Pieces.{Piece, Onto, one}
+use Rattle.js_tree.specs.TokenKinds.{is}
+use Rattle.js_tree.specs.declared.token_kind.TokenKind.TheVariants as kinds
 use Rattle.js_tree.specs.declared.tree.Stmt.{Stmt}
-use Rattle.js_tree.specs.declared.tree.Stmt.TheVariants as statement
-use Rattle.js_parser.proofs.AheadLemmas.{holds_from}
-use Rattle.js_parser.proofs.ExitLemmas.{exit}
-use Rattle.js_parser.proofs.PlaceLemmas.{moved, passes_none, passes_on}
-use Rattle.js_parser.proofs.RuleLemmas.{PlainView, plain_view, ahead_from}
-use Rattle.js_parser.proofs.ViewLemmas.{value_view}
-use Rattle.js_parser.specs.Nodes.{DoneAt, StmtAt}
-use Rattle.js_parser.specs.Reading.{Reads}
+use Rattle.js_tree.specs.declared.tree.Stmt.TheVariants as made
+use Rattle.js_parser.proofs.BeginLemmas.{expr_begins, stops_before, with_mark}
+use Rattle.js_parser.proofs.ExprLemmas.{value_of, value_at, rests}
+use Rattle.js_parser.proofs.PlaceLemmas.{passes_none, passes_on}
+use Rattle.js_parser.proofs.ReadLemmas.{want, failed}
+use Rattle.js_parser.proofs.StmtLemmas.{PlainView, stmt_view, plain_next, plain_made, plain_tall}
+use Rattle.js_parser.specs.Nodes.{StmtAt, ValueAt, ValueStops}
+use Rattle.js_parser.specs.declared.kinds.Statement.TheVariants as sorts
 use Rattle.js_parser.specs.declared.tall.Tall.{Tall}
 use Rattle.js_parser.proofs.grammar.Grammar.plain.Goals as goal
 
-abbrev tall : Expr → Tall Expr
-tall x = record { node = x; height = (expr x).height }
+value_here : (room : ℕ) (p : _) (x : Tall Stmt) (rest : List Piece) (v : PlainView p x.node rest) → StmtAt room x → ValueAt 0 (room - 1) (value_of v.value)
+value_here room p x rest v at = value_at 0 (room - 1) v.value v.good (omega (arith, v.height, at.height, at.fits))
 
-value_at : (p : _) (x : Tall Stmt) (rest : List Piece) (room : _) (v : PlainView p x.node rest) → StmtAt room x → DoneAt (room - 1) (tall v.value)
-value_at p x rest room v at = record { done = v.done; height = refl; fits = omega (arith, v.height, at.height, at.fits) }
+abbrev ending : {p : _} {x : Stmt} {rest : List Piece} → PlainView p x rest → Onto
+ending v = one (is kinds.Semicolon) v.semi
 
-pub returns-then-room-lt3-clause-only : goal.returns-then-room-lt3-clause-only
-returns-then-room-lt3-clause-only g c x rest r at _ =
-    let v = plain_view c.args.lexer.now x.node rest c.requires.no_function c.requires.no_var r in
-    let w = value_view (expr v.value).height c.args.lexer.now (tall v.value) (one v.semi SEMICOLON rest) v.read (record { done = v.done; height = refl; fits = omega arith }) in
-    absurd (omega (arith, at.height, v.height, w.tall, at.fits, c.if-room-lt3.true))
+ends : (p : _) (x : Stmt) (rest : List Piece) (v : PlainView p x rest) → ValueStops 0 (value_of v.value) (ending v rest)
+ends p x rest v = rests 0 (value_of v.value) (ending v rest) (omega arith) (stops_before 0 0 kinds.Semicolon refl (λ nl. refl) (omega arith) v.semi rest)
 
-pub returns-in_err-value-clause-only : goal.returns-in_err-value-clause-only
-returns-in_err-value-clause-only g c x rest r at _ =
-    let v = plain_view c.args.lexer.now x.node rest c.requires.no_function c.requires.no_var r in
-    exit _ _ (tall v.value) x _ _ c.from_residual.ensures.1 (c.in_err-value.ensures.only (tall v.value) (one v.semi SEMICOLON rest) v.read (value_at _ x rest c.args.room v at) tt)
+pub returns-in_err-value : goal.returns-in_err-value
+returns-in_err-value g c = record {
+  reads = failed _ _ _ _ _ _ _ _ (passes_none _) c.in_err-value.ensures.reads.moves
+      (λ x rest r at s.
+      let v = stmt_view sorts.Plain _ x.node rest c.requires.told r in
+      want _ _ _ (c.in_err-value.ensures.reads.only (value_of v.value) (ending v rest) v.read (value_here _ _ x rest v at) (ends _ x.node rest v))) c.from_residual.ensures.1;
+}
 
-pub returns-in_err-value-clause-moves : goal.returns-in_err-value-clause-moves
-returns-in_err-value-clause-moves g c = moved _ _ _ _ _ (passes_none _) c.in_err-value.ensures.moves c.from_residual.ensures.1
+pub returns-in_err-semi : goal.returns-in_err-semi
+returns-in_err-semi g c = record {
+  reads = failed _ _ _ _ _ _ _ _ c.in_ok-value.ensures.reads.moves c.in_err-semi.ensures.moves
+      (λ x rest r at s.
+      let v = stmt_view sorts.Plain _ x.node rest c.requires.told r in
+      let g0 = c.in_ok-value.ensures.reads.only (value_of v.value) (ending v rest) v.read (value_here _ _ x rest v at) (ends _ x.node rest v) in
+      want _ _ _ (c.in_err-semi.ensures.only v.semi rest g0.1 tt tt)) c.from_residual-in_err-semi.ensures.1;
+}
 
-pub returns-in_err-semi-clause-only : goal.returns-in_err-semi-clause-only
-returns-in_err-semi-clause-only g c x rest r at _ =
-    let v = plain_view c.args.lexer.now x.node rest c.requires.no_function c.requires.no_var r in
-    let g0 = c.in_ok-value.ensures.only (tall v.value) (one v.semi SEMICOLON rest) v.read (value_at _ x rest c.args.room v at) tt in
-    exit _ _ v.semi x _ _ c.from_residual-in_err-semi.ensures.1 (c.in_err-semi.ensures.only v.semi rest g0.1 tt tt)
-
-pub returns-in_err-semi-clause-moves : goal.returns-in_err-semi-clause-moves
-returns-in_err-semi-clause-moves g c = moved _ _ _ _ _ c.in_ok-value.ensures.moves c.in_err-semi.ensures.moves c.from_residual-in_err-semi.ensures.1
-
-pub returns-clause-only : goal.returns-clause-only
-returns-clause-only g c x rest r at _ =
-    let v = plain_view c.args.lexer.now x.node rest c.requires.no_function c.requires.no_var r in
-    let g0 = c.in_ok-value.ensures.only (tall v.value) (one v.semi SEMICOLON rest) v.read (value_at _ x rest c.args.room v at) tt in
-    let g1 = c.in_ok-semi.ensures.only v.semi rest g0.1 tt tt in
-    let h = at.height ∙ v.height in
-    ((λ i. record { node = statement.Plain (g0.0 i).node (Some (g1.0 i)); height = (g0.0 i).height + 1 }) ∙ (λ i. record { node = sym v.node i; height = sym h i }), g1.1)
-
-pub returns-clause-moves : goal.returns-clause-moves
-returns-clause-moves g c = passes_on _ _ _ c.in_ok-value.ensures.moves c.in_ok-semi.ensures.moves
-
-pub returns-clause-found : goal.returns-clause-found
-returns-clause-found g c =
-    let w = c.in_ok-value.ensures.found.1 in
-    let s = at-Plain c.in_ok-value.field-0.node (Some c.in_ok-semi.semi) in (
+pub returns : goal.returns
+returns g c = record {
+  reads = record {
+    found = (
       λ rest r.
-          let more = c.in_ok-value.ensures.found.0 (one c.in_ok-semi.semi SEMICOLON rest) (_, c.in_ok-semi.ensures.found.0, c.in_ok-semi.ensures.found.1, r) in
-          subst (λ (t : Seen). Reads c.args.lexer.now (t.line rest)) (sym s) (w.done, (refl, (holds_from begins_plain _ _ (ahead_from _ c.requires.no_function) more, more))),
-      record { height = ap (λ n. n + 1) w.height ∙ sym (ap (λ (t : Seen). t.height) s); fits = omega (arith, w.fits, c.if-room-lt3.false) },
-    )
+          let more = c.in_ok-value.ensures.reads.found.0 _ (with_mark kinds.Semicolon _ _ _ rest c.in_ok-semi.ensures.found.0 c.in_ok-semi.ensures.found.1 r) in
+          plain_made _ _ _ rest c.in_ok-value.ensures.reads.found.1.stands (plain_next _ _ c.requires.told (expr_begins _ _ _ more)) more,
+      let w = c.in_ok-value.ensures.reads.found.1 in
+          let h = plain_tall c.in_ok-value.value.node c.in_ok-semi.semi in
+          record { height = omega (arith, h, w.height); fits = omega (arith, w.fits, c.requires.some) },
+    );
+    only = λ x rest r at s.
+        let v = stmt_view sorts.Plain _ x.node rest c.requires.told r in
+        let g0 = c.in_ok-value.ensures.reads.only (value_of v.value) (ending v rest) v.read (value_here _ _ x rest v at) (ends _ x.node rest v) in
+        let g1 = c.in_ok-semi.ensures.only v.semi rest g0.1 tt tt in
+        let h = at.height ∙ v.height in
+        ((λ i. record { node = made.Plain (g0.0 i).node (Some (g1.0 i)); height = (g0.0 i).height + 1 }) ∙ (λ i. record { node = sym v.node i; height = sym h i }), g1.1);
+    moves = passes_on _ _ _ c.in_ok-value.ensures.reads.moves c.in_ok-semi.ensures.moves;
+    shorter = omega (arith, c.in_ok-value.ensures.reads.shorter, c.in_ok-semi.ensures.shorter);
+  };
+}

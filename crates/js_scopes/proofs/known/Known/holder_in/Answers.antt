@@ -1,7 +1,7 @@
 use Rattle.std.proofs.Common.{ap, sym, ◌∙◌}
 use Rattle.js_tree.specs.Parts.{node_of}
 use Rattle.js_scopes.specs.AtHand.{known_in}
-use Rattle.js_scopes.specs.Scopes.{holder_in}
+use Rattle.js_scopes.specs.Calls.{holder_in}
 use Rattle.js_scopes.proofs.known.Known.holder_in.Goals as goal
 
 pub returns-in-Function : goal.returns-in-Function

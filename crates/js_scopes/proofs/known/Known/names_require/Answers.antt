@@ -5,7 +5,7 @@ use Rattle.js_tree.specs.declared.tree.Expr.TheOpen.{Expr-F}
 use Rattle.js_tree.specs.declared.tree.Expr.TheVariants.{outs-Name}
 use Rattle.js_scopes.specs.AtHand.{known_in}
 use Rattle.js_tree.specs.Folds.{ExprLayer}
-use Rattle.js_scopes.specs.Scopes.{Known, names_require}
+use Rattle.js_scopes.specs.Calls.{Known, names_require}
 use Rattle.js_scopes.proofs.Layers.{is-Name}
 use Rattle.js_scopes.proofs.known.Known.names_require.Goals as goal
 

@@ -1,0 +1,121 @@
+-- Functions: what each has, and the name that it takes from what it is given to (ECMA-262, 14.1 and 8.4.1; the names are this project's own).
+use Rattle.std.specs.Prelude.{ℕ, List, [], ◌∷◌, length, Option, Some, None, option_and_then, Bool, if◌then◌else◌, codes}
+use Rattle.std.specs.Option.{unwrap_or}
+use Rattle.std.specs.Str.{bytes_eq}
+use Rattle.js_tree.specs.declared.lists.Tail.{Tail}
+use Rattle.js_tree.specs.declared.lists.Tail.TheVariants as tail
+use Rattle.js_tree.specs.declared.token.Token.{Token}
+use Rattle.js_tree.specs.declared.token.TokenClass.TheVariants as class
+use Rattle.js_tree.specs.declared.tree.Expr.{Expr, out-Expr}
+use Rattle.js_tree.specs.declared.tree.Expr.TheOpen.{Expr-F, Function-F, Pattern-F}
+use Rattle.js_tree.specs.declared.tree.Function.{Function, out-Function}
+use Rattle.js_tree.specs.declared.tree.Pattern.{Pattern, out-Pattern}
+use Rattle.js_tree.specs.declared.tree.Slot.{Slot, out-Slot}
+use Rattle.js_tree.specs.Folds.{ExprLayer, FunctionLayer, PatternLayer}
+use Rattle.js_tree.specs.Lexical.Value.{value_of}
+use Rattle.js_tree.specs.Parts.{Node, AnExpr, AFunction, ASlot, gathered}
+use Rattle.js_scopes.specs.Brackets.{elements, last_of, listed, placed}
+use Rattle.js_scopes.specs.declared.function.FunctionInfo.{FunctionInfo}
+
+-- WHAT A FUNCTION HAS
+
+-- its first token, its own name, and its parameters but the rest
+abbrev pub start_in : FunctionLayer → ℕ
+start_in (Function-F.Keyword word name params body) = word.start
+
+abbrev pub name_in : FunctionLayer → Option Token
+name_in (Function-F.Keyword word name params body) = name
+
+abbrev pub params_in : FunctionLayer → List Slot
+params_in (Function-F.Keyword word name params body) = placed (elements params)
+
+abbrev pub start_of : Function → ℕ
+start_of f = start_in (out-Function f)
+
+abbrev pub own_name : Function → List Token
+own_name f = listed (name_in (out-Function f))
+
+-- NAMES
+
+-- the operator is `=`
+abbrev pub is_assignment : Token → Bool
+is_assignment op = bytes_eq op.text (codes "=")
+
+-- the token is a string or a number, and names the member whose bracket it stands in
+abbrev pub key_token : Token → Option Token
+key_token t = elim t.class [ class.Str ↦ Some t | class.Number ↦ Some t | _ ↦ None ]
+
+abbrev pub key_in : ExprLayer → Option Token
+key_in (Expr-F.Literal t) = key_token t
+key_in _ = None
+
+-- the token that names the member that a tail is; no other bracket has one
+abbrev pub tail_token : Tail Expr → Option Token
+tail_token (tail.Member dot name) = Some name
+tail_token (tail.Index begin value end) = key_in (out-Expr value)
+tail_token _ = None
+
+-- the token from which a function takes its name that is directly assigned to a chain with these tails, to a chain, and to a pattern
+abbrev pub last_token : List (Tail Expr) → Option Token
+last_token tails = option_and_then tail_token (last_of tails)
+
+abbrev pub chain_gives : ExprLayer → Option Token
+chain_gives (Expr-F.Chain head tails) = last_token tails
+chain_gives _ = None
+
+abbrev pub pattern_gives : PatternLayer → Option Token
+pattern_gives (Pattern-F.«Pattern::Name» t) = Some t
+pattern_gives (Pattern-F.Member chain) = chain_gives (out-Expr chain)
+pattern_gives _ = None
+
+abbrev pub gives : Pattern → Option Token
+gives p = pattern_gives (out-Pattern p)
+
+-- what a target gives with this operator: with `=` alone a value is named
+abbrev pub assigned_token : Token → Option Token → Option Token
+assigned_token op target = if is_assignment op then target else None
+
+-- the token that is given to what stands directly in a node: by a target to its value; a function as a value is given what its expression is
+abbrev pub given_in_expr : ExprLayer → Option Token → Option Token
+given_in_expr (Expr-F.Assign target op value) given = assigned_token op (gives target)
+given_in_expr (Expr-F.«Expr::Fun» function) given = given
+given_in_expr _ given = None
+
+abbrev pub given_in : Node → Option Token → Option Token
+given_in (AnExpr x) given = given_in_expr (out-Expr x) given
+given_in (ASlot x) given = gives (out-Slot x).target
+given_in _ given = None
+
+-- the name of a function without one
+abbrev pub anonymous : List ℕ
+anonymous = codes "<anonymous>"
+
+-- the name that a token gives: the value of a string, where it has one, and the text of any other
+abbrev pub value_given : Token → List ℕ
+value_given t = unwrap_or (value_of t.text) anonymous
+
+abbrev pub text_given : Token → List ℕ
+text_given t = elim t.class [ class.Str ↦ value_given t | _ ↦ t.text ]
+
+abbrev pub name_given : Option Token → List ℕ
+name_given None = anonymous
+name_given (Some t) = text_given t
+
+-- the name of a function with this own name that is given this token
+abbrev pub name_of : Option Token → Option Token → List ℕ
+name_of None given = name_given given
+name_of (Some t) given = t.text
+
+-- FUNCTIONS
+
+-- a function that is given this token
+abbrev pub info_in : FunctionLayer → Option Token → FunctionInfo
+info_in f given = record { start = start_in f; params = length (params_in f); name = name_of (name_in f) given }
+
+abbrev pub own_functions : Node → Option Token → List FunctionInfo
+own_functions (AFunction f) given = info_in (out-Function f) given ∷ []
+own_functions _ given = []
+
+-- the functions in a node that is given this token
+abbrev pub functions_in : Node → Option Token → List FunctionInfo
+functions_in = gathered own_functions (λ n given. Some (given_in n given))

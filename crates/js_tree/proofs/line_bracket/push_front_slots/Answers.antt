@@ -1,0 +1,16 @@
+use Rattle.std.proofs.Common.{◌++◌, ◌∷◌, List, [], map, refl, ap, ◌∙◌}
+use Rattle.js_tree.specs.declared.lists.Listed.{Listed}
+use Rattle.js_tree.specs.declared.lists.Element.{Element}
+use Rattle.js_tree.specs.declared.tree.Slot.{Slot}
+use Rattle.js_tree.specs.Parts.{ASlot}
+use Rattle.js_tree.specs.Line.{LineItem, AToken, ANode, item_of}
+use Rattle.js_tree.specs.Line.{possible}
+use Rattle.js_tree.proofs.Adding.{put_more, possible_onto}
+use Rattle.js_tree.proofs.line_bracket.push_front_slots.Goals as goal
+
+pub loop-listed-preserved : goal.loop-listed-preserved
+loop-listed-preserved c =
+    let mid = map item_of c.loop-listed.out.items in
+    put_more (λ (x : Listed (Element Slot)) (more : List LineItem). possible x.item.dots (ANode (ASlot x.item.value) ∷ AToken x.mark ∷ more)) (λ x more. possible_onto x.item.dots (ANode (ASlot x.item.value) ∷ AToken x.mark ∷ []) more) (map item_of c.args.out.now.items) mid (map item_of c.push_listed_slot.new.out.items) c.args.front.now c.loop-listed.listed-index c.listed-item.result
+    c.loop-listed-test.true c.loop-listed.invariant
+    (c.in_ok-push_listed_slot.ensures {u = tt} ∙ ap (λ (x : Listed (Element Slot)). mid ++ possible x.item.dots (ANode (ASlot x.item.value) ∷ AToken x.mark ∷ [])) c.listed-item.is)

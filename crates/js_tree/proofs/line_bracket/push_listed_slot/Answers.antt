@@ -1,0 +1,19 @@
+use Rattle.std.proofs.Common.{◌++◌, ◌∷◌, List, [], map, refl, ap, sym, ◌∙◌}
+use Rattle.std.proofs.lemmas.Result.{on_ok_weaker}
+use Rattle.js_tree.specs.Line.{LineItem, AToken, ANode, given_marks, item_of, items, possible, tail_items}
+use Rattle.js_tree.specs.Parts.{AnExpr, ASlot, AStmt}
+use Rattle.js_tree.specs.Spelling.Rows.{arm_row, bracket_row, each_of, element_row, listed_row, maybe, template_row}
+use Rattle.js_tree.proofs.Adding.{put_onto, possible_onto}
+use Rattle.js_tree.proofs.OntoLemmas.{then_put, tail_items_onto, param_items_onto, template_items}
+use Rattle.js_tree.proofs.line_bracket.push_listed_slot.Goals as goal
+
+pub returns : goal.returns
+returns c =
+    let row0 : List LineItem → List LineItem = (element_row given_marks items.slot c.args.listed.now.item) in
+    let m0 = map item_of c.args.out.now.items in
+    let m1 = map item_of c.push_element_slot.new.out.items in
+    let new = map item_of c.push_token.new.out.items in
+    let rest1 = AToken c.args.listed.now.mark ∷ [] in
+    on_ok_weaker c.push_token.result
+    (λ h. then_put row0 (λ more. possible_onto c.args.listed.now.item.dots (ANode (ASlot c.args.listed.now.item.value) ∷ []) more) m0 m1 new rest1 (c.in_ok-push_element_slot.ensures {u = tt}) (h))
+    c.push_token.ensures

@@ -1,0 +1,13 @@
+use Rattle.std.proofs.Common.{◌++◌, ◌∷◌, List, [], map, refl, ap, ◌∙◌}
+use Rattle.js_tree.specs.declared.lists.Further.{Further}
+use Rattle.js_tree.specs.declared.tree.Expr.{Expr}
+use Rattle.js_tree.specs.Parts.{Node, AnExpr, node_of}
+use Rattle.js_tree.proofs.Adding.{put_more}
+use Rattle.js_tree.proofs.node_list.push_further.Goals as goal
+
+pub loop-further-preserved : goal.loop-further-preserved
+loop-further-preserved c =
+    let mid = map node_of c.loop-further.out.items in
+    put_more (λ (x : Further Expr) (more : List Node). AnExpr x.item ∷ more) (λ x more. refl) (map node_of c.args.out.now.items) mid (map node_of c.push.new.out.items) c.args.rest.now c.loop-further.further-index c.further-item.result
+    c.loop-further-test.true c.loop-further.invariant
+    (c.in_ok-push.ensures {u = tt} ∙ ap (λ x. mid ++ AnExpr x ∷ []) c.get.ensures ∙ ap (λ (x : Further Expr). mid ++ AnExpr x.item ∷ []) c.further-item.is)

@@ -1,0 +1,22 @@
+use Rattle.std.proofs.Common.{◌++◌, ◌∷◌, List, [], map, refl, ap, sym, ◌∙◌}
+use Rattle.std.proofs.lemmas.Result.{on_ok_weaker}
+use Rattle.js_tree.specs.declared.lists.Listed.{Listed}
+use Rattle.js_tree.specs.declared.lists.Element.{Element}
+use Rattle.js_tree.specs.declared.tree.Slot.{Slot}
+use Rattle.js_tree.specs.Parts.{Node, AnExpr, ASlot, node_of, nodes, tails_behind}
+use Rattle.js_tree.specs.Spelling.Nodes.{unmarked}
+use Rattle.js_tree.specs.Spelling.Rows.{bracket_row, each_of, maybe, template_row}
+use Rattle.js_tree.proofs.Adding.{put_onto}
+use Rattle.js_tree.proofs.OntoLemmas.{then_put, tails_onto, params_onto, template_nodes}
+use Rattle.js_tree.proofs.node_list.push_params.Goals as goal
+
+pub returns : goal.returns
+returns c =
+    let row0 : List Node → List Node = each_of (λ (x : Listed (Element Slot)) (more : List Node). ASlot x.item.value ∷ more) c.args.bracket.now.front in
+    let m0 = map node_of c.args.out.now.items in
+    let m1 = map node_of c.push_front_slots.new.out.items in
+    let new = map node_of c.push_last_slot.new.out.items in
+    let rest1 = maybe (λ (x : Element Slot) (more : List Node). ASlot x.value ∷ more) c.args.bracket.now.last [] in
+    on_ok_weaker c.push_last_slot.result
+    (λ h. then_put row0 (put_onto (λ (x : Listed (Element Slot)) (more : List Node). ASlot x.item.value ∷ more) (λ x more. refl) c.args.bracket.now.front) m0 m1 new rest1 (c.in_ok-push_front_slots.ensures {u = tt} ∙ ap (λ xs. m0 ++ each_of (λ (x : Listed (Element Slot)) (more : List Node). ASlot x.item.value ∷ more) xs []) c.as_slice.ensures) (h))
+    c.push_last_slot.ensures

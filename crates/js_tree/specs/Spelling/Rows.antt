@@ -1,0 +1,99 @@
+-- Of what a node is made up, told for every use at once: its tokens, what its places ask for, and the nodes in it.
+use Rattle.std.specs.Prelude.{List, [], ◌∷◌, Option, Some, None, Bool}
+use Rattle.js_tree.specs.declared.lists.Arm.{Arm}
+use Rattle.js_tree.specs.declared.lists.Bracket.{Bracket}
+use Rattle.js_tree.specs.declared.lists.Element.{Element}
+use Rattle.js_tree.specs.declared.lists.Further.{Further}
+use Rattle.js_tree.specs.declared.lists.Init.{Init}
+use Rattle.js_tree.specs.declared.lists.Listed.{Listed}
+use Rattle.js_tree.specs.declared.lists.Tail.{Tail}
+use Rattle.js_tree.specs.declared.lists.Tail.TheVariants as tail
+use Rattle.js_tree.specs.declared.lists.Template.{Template}
+use Rattle.js_tree.specs.declared.token.Token.{Token}
+use Rattle.js_tree.specs.declared.token_kind.TokenKind.{TokenKind}
+use Rattle.js_tree.specs.declared.token_kind.TokenKind.TheVariants as kind
+use Rattle.js_tree.specs.Operators.{is_member_name}
+use Rattle.js_tree.specs.TokenKinds.{is}
+
+-- how a token whose place takes these kinds, one that may be there, and a condition on the next token are put in front of what follows
+pub record Marks (R : Type 0) : Type 0 where
+  pub token : (TokenKind → Bool) → Token → R → R
+  pub option : (TokenKind → Bool) → Option Token → R → R
+  pub ahead : (TokenKind → Bool → Bool) → R → R
+
+-- the same of nodes: of an expression, a function, a pattern, a statement, a slot, and of the tails behind a head
+pub record Writer (E F P S L R : Type 0) : Type 0 where
+  pub marks : Marks R
+  pub expr : E → R → R
+  pub function : F → R → R
+  pub pattern : P → R → R
+  pub stmt : S → R → R
+  pub slot : L → R → R
+  pub tails : E → List (Tail E) → R → R
+
+-- a token of this kind
+abbrev pub mark : {R : Type 0} → Marks R → TokenKind → Token → R → R
+mark m k = m.token (is k)
+
+-- a token of this kind, where there is one
+abbrev pub may_mark : {R : Type 0} → Marks R → TokenKind → Option Token → R → R
+may_mark m k = m.option (is k)
+
+-- items one after another
+abbrev pub each_of : {X R : Type 0} → (X → R → R) → List X → R → R
+each_of put [] rest = rest
+each_of put (x ∷ xs) rest = put x (each_of put xs rest)
+
+-- an item, where there is one
+abbrev pub maybe : {X R : Type 0} → (X → R → R) → Option X → R → R
+maybe put None rest = rest
+maybe put (Some x) rest = put x rest
+
+-- a further item and the mark before it
+abbrev pub further_row : {X R : Type 0} → Marks R → (X → R → R) → (TokenKind → Bool) → Further X → R → R
+further_row m put test x rest = m.token test x.mark (put x.item rest)
+
+-- an item and the comma behind it
+abbrev pub listed_row : {X R : Type 0} → Marks R → (X → R → R) → Listed X → R → R
+listed_row m put x rest = put x.item (mark m kind.Comma x.mark rest)
+
+-- an item in brackets
+abbrev pub element_row : {X R : Type 0} → Marks R → (X → R → R) → Element X → R → R
+element_row m put x rest = may_mark m kind.Dots x.dots (put x.value rest)
+
+-- `(`, items by commas, `)` (ECMA-262, 12.3 and 14.1)
+abbrev pub bracket_row : {X R : Type 0} → Marks R → (X → R → R) → Bracket X → R → R
+bracket_row m put b rest =
+    mark m kind.LeftParen b.open (each_of (listed_row m (element_row m put)) b.front (maybe (element_row m put) b.last (mark m kind.RightParen b.close rest)))
+
+-- what a template begins with, by its substitutions, and what stands behind one of them, by those that follow
+abbrev pub template_head : {X : Type 0} → List X → TokenKind → Bool
+template_head [] = is kind.TemplateWhole
+template_head (x ∷ xs) = is kind.TemplateHead
+
+abbrev pub template_mark : {X : Type 0} → List X → TokenKind → Bool
+template_mark [] = is kind.TemplateTail
+template_mark (x ∷ xs) = is kind.TemplateMiddle
+
+abbrev pub template_parts : {X R : Type 0} → Marks R → (X → R → R) → List (Listed X) → R → R
+template_parts m put [] rest = rest
+template_parts m put (x ∷ xs) rest = put x.item (m.token (template_mark xs) x.mark (template_parts m put xs rest))
+
+-- a template: the whole, or its parts and what stands between them (ECMA-262, 12.2.9)
+abbrev pub template_row : {X R : Type 0} → Marks R → (X → R → R) → Template X → R → R
+template_row m put t rest = m.token (template_head t.parts) t.head (template_parts m put t.parts rest)
+
+-- Member: `.` and any name or word. Index: `[`, an expression, `]`. Call: arguments. Template: a template (ECMA-262, 12.3)
+abbrev pub tail_row : {X R : Type 0} → Marks R → (X → R → R) → Tail X → R → R
+tail_row m put (tail.Member dot name) rest = mark m kind.Dot dot (m.token is_member_name name rest)
+tail_row m put (tail.Index begin value end) rest = mark m kind.LeftBracket begin (put value (mark m kind.RightBracket end rest))
+tail_row m put (tail.Call b) rest = bracket_row m put b rest
+tail_row m put (tail.Template t) rest = template_row m put t rest
+
+-- a test, `?`, a value, `:` (ECMA-262, 12.14)
+abbrev pub arm_row : {X R : Type 0} → Marks R → (X → R → R) → Arm X → R → R
+arm_row m put x rest = put x.test (mark m kind.Question x.question (put x.value (mark m kind.Colon x.colon rest)))
+
+-- `=` and a value
+abbrev pub init_row : {X R : Type 0} → Marks R → (X → R → R) → Init X → R → R
+init_row m put x rest = mark m kind.Assign x.equals (put x.value rest)
