@@ -1,5 +1,5 @@
 -- Modules without a tree.
-use Rattle.std.proofs.Common.{refl, ◌≡◌, ℕ, ◌∷◌, ◌++◌, List, map, sym, subst, Option, Some, None}
+use Rattle.std.proofs.Common.{refl, ◌≡◌, ℕ, ◌∷◌, ◌++◌, List, map, sym, subst, Option}
 use Rattle.std.specs.Prelude.{All, Contains}
 use Rattle.std.proofs.lemmas.List.Elements.{All-contains, All-map, All-weaker, Contains-append_right}
 use Rattle.jam_base.specs.Files.{Files}

@@ -14,7 +14,7 @@ use Rattle.jam_app.specs.declared.loading.size.Size.{Size}
 use Rattle.jam_app.specs.declared.loading.source.Source.{Source}
 use Rattle.jam_app.specs.Reading as reading
 use Rattle.jam_app.specs.Reading.{HasBad, HasExcess, IsRead, IsRefusedFor, file_at, file_of, led_from, size_of, source_of}
-use Rattle.jam_app.specs.BetweenRounds.{IsHeld, Stands, found_at}
+use Rattle.jam_app.specs.BetweenRounds.{Stands, found_at}
 use Rattle.jam_app.specs.Refusals.{IsFirstBad, IsLoadRefusal, construct, not_in_profile, too_large, too_many}
 use Rattle.jam_app.specs.Rounds.{Ascend, Fits, IsRound, NoneBad, text_at, total_bytes}
 use Rattle.jam_app.specs.Texts.{IsBad}

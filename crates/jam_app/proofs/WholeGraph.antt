@@ -9,7 +9,7 @@ use Rattle.jam_base.specs.declared.edge.FunctionRef.{FunctionRef}
 use Rattle.js_scopes.specs.declared.function.FunctionInfo.{FunctionInfo}
 use Rattle.js_scopes.specs.Scopes.{functions_of}
 use Rattle.flow_rules.specs.Constraints.{ModuleConstraints}
-use Rattle.flow_rules.specs.Flows.{constraints_of, requires_of}
+use Rattle.flow_rules.specs.Flows.{requires_of}
 use Rattle.node_resolve.specs.declared.target.Target.TheVariants.{Module}
 use Rattle.node_resolve.specs.Targets.{target_of}
 use Rattle.composer.specs.declared.application.Link.{Link}

@@ -1,6 +1,6 @@
 -- How large loaded modules are together, and that one application has one size.
 use Rattle.std.proofs.Common.{◌≡◌, ℕ, ◌+◌, ◌<◌, ◌≤◌, List, [], ◌∷◌, length, map, refl, ap, sym, subst, ◌∙◌, arith, sum_by, inl, inr, Option, Result, Ok, Err}
-use Rattle.std.specs.Prelude.{All, Contains, IfSome, IfOk}
+use Rattle.std.specs.Prelude.{All, IfSome, IfOk}
 use Rattle.std.specs.Result.{IfErr, IsErrAnd}
 use Rattle.std.specs.Cmp.Lexicographic.{nat_list_cmp_total}
 use Rattle.std.proofs.lemmas.List.Elements.{All-head, All-tail}

@@ -1,5 +1,4 @@
-use Rattle.std.proofs.Common.{◌≡◌, ◌≤◌, ◌<◌, [], length, map, ap, refl, sym, subst, ◌∙◌}
-use Rattle.std.specs.Prelude.{All}
+use Rattle.std.proofs.Common.{◌≡◌, ◌<◌, [], length, map, ap, refl, sym, subst, ◌∙◌}
 use Rattle.std.specs.List.Sorted.{IsStrictlySortedBy}
 use Rattle.std.specs.Cmp.Lexicographic.{slice_cmp}
 use Rattle.std.specs.Ordering.{nat_cmp}
@@ -8,7 +7,7 @@ use Rattle.composer.specs.Parts.{AreByPath, AreLinks, lists_of}
 use Rattle.composer.specs.Sizes.{made_size, size_limit}
 use Rattle.report_text.specs.Graph.{graph_text_of}
 use Rattle.jam_app.specs.declared.loading.loaded.Loaded.{Loaded}
-use Rattle.jam_app.specs.Loading.{IsAnalysed, loaded_size, module_of, part_of}
+use Rattle.jam_app.specs.Loading.{loaded_size, module_of}
 use Rattle.jam_app.specs.Links.{Adds, LinksBelow}
 use Rattle.jam_app.specs.Printing.{edge_among, printed_of}
 use Rattle.jam_app.specs.Stops.{StopsWide}

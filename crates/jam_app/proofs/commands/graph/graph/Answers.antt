@@ -1,4 +1,4 @@
-use Rattle.std.proofs.Common.{◌≡◌, arith, refl, subst, sym}
+use Rattle.std.proofs.Common.{arith, refl, subst, sym}
 use Rattle.jam_app.specs.Loading.{loaded_size}
 use Rattle.jam_app.specs.Refusals.{IsLoadRefusal, IsRefusal, load}
 use Rattle.jam_app.specs.Stops.{CountsFaults}

@@ -1,4 +1,4 @@
-use Rattle.std.proofs.Common.{◌≡◌, ◌∙◌, [], arith, refl, subst, sym}
+use Rattle.std.proofs.Common.{◌≡◌, ◌∙◌, [], refl, subst, sym}
 use Rattle.std.proofs.lemmas.List.{take_all}
 use Rattle.jam_app.specs.Loading.{AreLed}
 use Rattle.jam_app.proofs.Ascending.{led_none, led_on}
