@@ -1,6 +1,6 @@
 -- Values read one after another.
 use Rattle.std.proofs.Common.{◌≡◌, ℕ, suc, ◌+◌, ◌<◌, List, ◌∷◌, length, drop, get_or, ap, sym, ◌∙◌, add-one, drop-cons}
-use Rattle.serde_json.specs.Data.{Data, Items, item}
+use Rattle.serde_json.specs.Data.{item}
 use Rattle.serde_json.specs.View.{items_view, view}
 use Rattle.serde_json.specs.declared.value.Value.{Value}
 

@@ -234,7 +234,7 @@ fn modules_outside_the_profile_are_refused_or_skipped(rt: HostRuntime) -> Result
         "graph index.js",
         2,
         "",
-        "jam: a.js:1:1: not in the profile\n",
+        "jam: a.js:1:1: with\n",
     )
 }
 

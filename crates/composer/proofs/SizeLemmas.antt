@@ -1,5 +1,5 @@
 -- What the size of modules bounds.
-use Rattle.std.proofs.Common.{ℕ, ◌+◌, ◌≤◌, List, [], ◌∷◌, length, arith, sum_by}
+use Rattle.std.proofs.Common.{◌≤◌, List, [], ◌∷◌, length, arith, sum_by}
 use Rattle.std.proofs.lemmas.List.Sums.{sum_by-cons}
 use Rattle.js_scopes.specs.declared.function.FunctionInfo.{FunctionInfo}
 use Rattle.flow_rules.specs.Constraints.{ModuleConstraints}

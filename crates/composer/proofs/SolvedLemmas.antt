@@ -19,7 +19,7 @@ use Rattle.composer.specs.declared.application.Value.{Value}
 use Rattle.composer.specs.declared.application.Value.TheVariants.{Fun, Native}
 use Rattle.composer.specs.declared.system.CallSite.{CallSite}
 use Rattle.composer.specs.declared.system.System.{System}
-use Rattle.composer.specs.Application.{at_module, of_each, site_of}
+use Rattle.composer.specs.Application.{at_module, site_of}
 use Rattle.composer.specs.CallEdges.{called_edges, edges_to, input_edges, site_edges}
 use Rattle.composer.specs.Numbered.{Below, HasValues, IsSiteIn, IsSystemIn, map_site, map_system}
 use Rattle.composer.specs.Numbers.{module_vertex_order, value_at, vertex_at}

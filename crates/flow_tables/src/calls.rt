@@ -1,5 +1,6 @@
 //! The flows of calls, of `new` and of templates behind a tag.
-use crate::texts::{constraints_of, flows_line};
+use crate::lists::flows_text;
+use crate::texts::constraints_of;
 use std::process::Abort;
 use std::test::Fail;
 
@@ -7,22 +8,38 @@ use std::test::Fail;
 fn calls_and_their_arguments(rt: HostRuntime) -> Result<(), Fail> {
     let alloc = rt.alloc();
     for (text, want) in [
-        ("f();", "G:f>c1.0 "),
-        ("f(a, b);", "G:a>a1.0.0 G:b>a1.0.1 G:f>c1.0 "),
-        ("f(1, b);", "G:b>a1.0.1 G:f>c1.0 "),
-        ("f(a, ...b, c);", "E>m1.0 G:a>a1.0.0 G:c>m1.0 G:f>c1.0 "),
-        ("f(...a.b);", "E>m1.0 G:f>c1.0 "),
-        ("a.f(b);", "P:f>c3.0 G:a>r3.0 G:b>a3.0.0 "),
-        ("a[b](c);", "E>c4.0 G:a>r4.0 G:c>a4.0.0 "),
-        ("(a.f)(b);", "P:f>c5.0 G:b>a5.0.0 "),
-        ("a.b.c();", "P:b>r5.0 P:c>c5.0 "),
-        ("f()();", "G:f>c1.0 res1.0>c3.0 "),
-        ("f().g();", "P:g>c5.0 G:f>c1.0 res1.0>r5.0 "),
-        ("var x = f();", "G:f>c9.0 res9.0>v0 "),
-        ("(0, eval)(\"x\");", "G:eval>c9.0 "),
-        ("module.exports();", "X>c14.0 "),
+        ("f();", "global:f -> callee:1:0"),
+        (
+            "f(a, b);",
+            "global:a -> arg:1:0:0, global:b -> arg:1:0:1, global:f -> callee:1:0",
+        ),
+        ("f(1, b);", "global:b -> arg:1:0:1, global:f -> callee:1:0"),
+        (
+            "f(a, ...b, c);",
+            "elem -> more:1:0, global:a -> arg:1:0:0, global:c -> more:1:0, \
+             global:f -> callee:1:0",
+        ),
+        ("f(...a.b);", "elem -> more:1:0, global:f -> callee:1:0"),
+        (
+            "a.f(b);",
+            "prop:f -> callee:3:0, global:a -> recv:3:0, global:b -> arg:3:0:0",
+        ),
+        (
+            "a[b](c);",
+            "elem -> callee:4:0, global:a -> recv:4:0, global:c -> arg:4:0:0",
+        ),
+        ("(a.f)(b);", "prop:f -> callee:5:0, global:b -> arg:5:0:0"),
+        ("a.b.c();", "prop:b -> recv:5:0, prop:c -> callee:5:0"),
+        ("f()();", "global:f -> callee:1:0, res:1:0 -> callee:3:0"),
+        (
+            "f().g();",
+            "prop:g -> callee:5:0, global:f -> callee:1:0, res:1:0 -> recv:5:0",
+        ),
+        ("var x = f();", "global:f -> callee:9:0, res:9:0 -> var:0"),
+        ("(0, eval)(\"x\");", "global:eval -> callee:9:0"),
+        ("module.exports();", "exports -> callee:14:0"),
     ] {
-        let line = flows_line(alloc, &constraints_of(alloc, text)?)?;
+        let line = flows_text(alloc, constraints_of(alloc, text)?.flows())?;
         assert!(rt; line.as_str() == want, "{text}: {}", line.as_str());
     }
     Ok(())
@@ -33,62 +50,99 @@ fn calls_of_require(rt: HostRuntime) -> Result<(), Fail> {
     let alloc = rt.alloc();
     for (text, want) in [
         ("require(\"x\");", ""),
-        ("a = require(\"x\");", "q11>G:a "),
-        ("a = require(\"x\", b).y;", "P:y>G:a "),
-        ("a = require(\"x\")(\"y\");", "res16.0>G:a q11>c16.0 "),
-        ("a = require(b);", "G:b>a11.0.0 res11.0>G:a "),
-        ("a = (require)(\"x\");", "res13.0>G:a "),
+        ("a = require(\"x\");", "req:11 -> global:a"),
+        ("a = require(\"x\", b).y;", "prop:y -> global:a"),
+        (
+            "a = require(\"x\")(\"y\");",
+            "res:16:0 -> global:a, req:11 -> callee:16:0",
+        ),
+        (
+            "a = require(b);",
+            "global:b -> arg:11:0:0, res:11:0 -> global:a",
+        ),
+        ("a = (require)(\"x\");", "res:13:0 -> global:a"),
     ] {
-        let line = flows_line(alloc, &constraints_of(alloc, text)?)?;
+        let line = flows_text(alloc, constraints_of(alloc, text)?.flows())?;
         assert!(rt; line.as_str() == want, "{text}: {}", line.as_str());
     }
     Ok(())
 }
 
 #[test]
-fn calls_that_are_passed_on(rt: HostRuntime) -> Result<(), Fail> {
+fn calls_that_are_passed_on_by_call(rt: HostRuntime) -> Result<(), Fail> {
     let alloc = rt.alloc();
     for (text, want) in [
         (
             "a = b.call(c, d);",
-            "P:call>c10.0 G:b>c10.1 G:b>r10.0 G:c>a10.0.0 G:c>r10.1 G:d>a10.0.1 G:d>a10.1.0 res10.0>e0 res10.1>e0 e0>G:a ",
+            "prop:call -> callee:10:0, global:b -> callee:10:1, global:b -> recv:10:0, \
+             global:c -> arg:10:0:0, global:c -> recv:10:1, global:d -> arg:10:0:1, \
+             global:d -> arg:10:1:0, res:10:0 -> exp:0, res:10:1 -> exp:0, exp:0 -> global:a",
         ),
         (
             "b[\"call\"](c);",
-            "P:call>c9.0 G:b>c9.1 G:b>r9.0 G:c>a9.0.0 G:c>r9.1 res9.0>e0 res9.1>e0 ",
+            "prop:call -> callee:9:0, global:b -> callee:9:1, global:b -> recv:9:0, \
+             global:c -> arg:9:0:0, global:c -> recv:9:1, res:9:0 -> exp:0, res:9:1 -> exp:0",
         ),
         (
             "b.call(...c, d);",
-            "P:call>c6.0 E>m6.0 E>m6.1 G:b>c6.1 G:b>r6.0 G:d>m6.0 G:d>m6.1 res6.0>e0 res6.1>e0 ",
+            "prop:call -> callee:6:0, elem -> more:6:0, elem -> more:6:1, \
+             global:b -> callee:6:1, global:b -> recv:6:0, global:d -> more:6:0, \
+             global:d -> more:6:1, res:6:0 -> exp:0, res:6:1 -> exp:0",
         ),
         (
             "b.call(c, ...d);",
-            "P:call>c6.0 E>m6.0 E>m6.1 G:b>c6.1 G:b>r6.0 G:c>a6.0.0 G:c>r6.1 res6.0>e0 res6.1>e0 ",
+            "prop:call -> callee:6:0, elem -> more:6:0, elem -> more:6:1, \
+             global:b -> callee:6:1, global:b -> recv:6:0, global:c -> arg:6:0:0, \
+             global:c -> recv:6:1, res:6:0 -> exp:0, res:6:1 -> exp:0",
         ),
+    ] {
+        let line = flows_text(alloc, constraints_of(alloc, text)?.flows())?;
+        assert!(rt; line.as_str() == want, "{text}: {}", line.as_str());
+    }
+    Ok(())
+}
+
+#[test]
+fn calls_that_are_passed_on_by_bind_and_apply(rt: HostRuntime) -> Result<(), Fail> {
+    let alloc = rt.alloc();
+    for (text, want) in [
         (
             "b.bind(c);",
-            "P:bind>c6.0 G:b>c6.1 G:b>r6.0 G:b>e0 G:c>a6.0.0 G:c>r6.1 res6.0>e0 res6.1>e0 ",
+            "prop:bind -> callee:6:0, global:b -> callee:6:1, global:b -> recv:6:0, \
+             global:b -> exp:0, global:c -> arg:6:0:0, global:c -> recv:6:1, \
+             res:6:0 -> exp:0, res:6:1 -> exp:0",
         ),
         (
             "b.bind();",
-            "P:bind>c6.0 G:b>c6.1 G:b>r6.0 G:b>e0 res6.0>e0 res6.1>e0 ",
+            "prop:bind -> callee:6:0, global:b -> callee:6:1, global:b -> recv:6:0, \
+             global:b -> exp:0, res:6:0 -> exp:0, res:6:1 -> exp:0",
         ),
         (
             "b.apply(c, d);",
-            "P:apply>c7.0 E>m7.1 G:b>c7.1 G:b>r7.0 G:c>a7.0.0 G:c>r7.1 G:d>a7.0.1 res7.0>e0 res7.1>e0 ",
+            "prop:apply -> callee:7:0, elem -> more:7:1, global:b -> callee:7:1, \
+             global:b -> recv:7:0, global:c -> arg:7:0:0, global:c -> recv:7:1, \
+             global:d -> arg:7:0:1, res:7:0 -> exp:0, res:7:1 -> exp:0",
         ),
         (
             "b.apply(...c);",
-            "P:apply>c7.0 E>m7.0 E>m7.1 G:b>c7.1 G:b>r7.0 res7.0>e0 res7.1>e0 ",
+            "prop:apply -> callee:7:0, elem -> more:7:0, elem -> more:7:1, \
+             global:b -> callee:7:1, global:b -> recv:7:0, res:7:0 -> exp:0, res:7:1 -> exp:0",
         ),
         (
             "b.apply();",
-            "P:apply>c7.0 E>m7.1 G:b>c7.1 G:b>r7.0 res7.0>e0 res7.1>e0 ",
+            "prop:apply -> callee:7:0, elem -> more:7:1, global:b -> callee:7:1, \
+             global:b -> recv:7:0, res:7:0 -> exp:0, res:7:1 -> exp:0",
         ),
-        ("(b.call)(c);", "P:call>c8.0 G:c>a8.0.0 "),
-        ("call(c);", "G:c>a4.0.0 G:call>c4.0 "),
+        (
+            "(b.call)(c);",
+            "prop:call -> callee:8:0, global:c -> arg:8:0:0",
+        ),
+        (
+            "call(c);",
+            "global:c -> arg:4:0:0, global:call -> callee:4:0",
+        ),
     ] {
-        let line = flows_line(alloc, &constraints_of(alloc, text)?)?;
+        let line = flows_text(alloc, constraints_of(alloc, text)?.flows())?;
         assert!(rt; line.as_str() == want, "{text}: {}", line.as_str());
     }
     Ok(())
@@ -100,25 +154,38 @@ fn what_is_put_in_and_taken_out(rt: HostRuntime) -> Result<(), Fail> {
     for (text, want) in [
         (
             "a.push(b, ...c, d);",
-            "P:push>c6.0 E>m6.0 G:a>r6.0 G:b>E G:b>a6.0.0 G:d>E G:d>m6.0 ",
+            "prop:push -> callee:6:0, elem -> more:6:0, global:a -> recv:6:0, \
+             global:b -> elem, global:b -> arg:6:0:0, global:d -> elem, global:d -> more:6:0",
         ),
         (
             "a[\"unshift\"](b);",
-            "P:unshift>c12.0 G:a>r12.0 G:b>E G:b>a12.0.0 ",
+            "prop:unshift -> callee:12:0, global:a -> recv:12:0, global:b -> elem, \
+             global:b -> arg:12:0:0",
         ),
-        ("x = a.pop();", "P:pop>c9.0 E>e0 G:a>r9.0 res9.0>e0 e0>G:x "),
-        ("a.shift();", "P:shift>c7.0 E>e0 G:a>r7.0 res7.0>e0 "),
-        ("a[pop]();", "E>c6.0 G:a>r6.0 "),
+        (
+            "x = a.pop();",
+            "prop:pop -> callee:9:0, elem -> exp:0, global:a -> recv:9:0, res:9:0 -> exp:0, \
+             exp:0 -> global:x",
+        ),
+        (
+            "a.shift();",
+            "prop:shift -> callee:7:0, elem -> exp:0, global:a -> recv:7:0, res:7:0 -> exp:0",
+        ),
+        ("a[pop]();", "elem -> callee:6:0, global:a -> recv:6:0"),
         (
             "a.pop().pop();",
-            "P:pop>c5.0 P:pop>c11.0 E>e0 E>e1 G:a>r5.0 res5.0>e1 res11.0>e0 e1>r11.0 ",
+            "prop:pop -> callee:5:0, prop:pop -> callee:11:0, elem -> exp:0, elem -> exp:1, \
+             global:a -> recv:5:0, res:5:0 -> exp:1, res:11:0 -> exp:0, exp:1 -> recv:11:0",
         ),
         (
             "x = a.pop(b || c).shift();",
-            "P:pop>c9.0 P:shift>c23.0 E>e0 E>e1 G:a>r9.0 G:b>e2 G:c>e2 res9.0>e1 res23.0>e0 e0>G:x e1>r23.0 e2>a9.0.0 ",
+            "prop:pop -> callee:9:0, prop:shift -> callee:23:0, elem -> exp:0, \
+             elem -> exp:1, global:a -> recv:9:0, global:b -> exp:2, global:c -> exp:2, \
+             res:9:0 -> exp:1, res:23:0 -> exp:0, exp:0 -> global:x, exp:1 -> recv:23:0, \
+             exp:2 -> arg:9:0:0",
         ),
     ] {
-        let line = flows_line(alloc, &constraints_of(alloc, text)?)?;
+        let line = flows_text(alloc, constraints_of(alloc, text)?.flows())?;
         assert!(rt; line.as_str() == want, "{text}: {}", line.as_str());
     }
     Ok(())
@@ -128,16 +195,34 @@ fn what_is_put_in_and_taken_out(rt: HostRuntime) -> Result<(), Fail> {
 fn what_new_makes(rt: HostRuntime) -> Result<(), Fail> {
     let alloc = rt.alloc();
     for (text, want) in [
-        ("a = new F;", "G:F>c4.0 res4.0>G:a "),
-        ("a = new F(b);", "G:F>c4.0 G:b>a4.0.0 res4.0>G:a "),
-        ("new a.b(...c, d);", "P:b>c0.0 E>m0.0 G:d>m0.0 "),
-        ("new a.push(b);", "P:push>c0.0 G:b>a0.0.0 "),
-        ("new a.call(b);", "P:call>c0.0 G:b>a0.0.0 "),
-        ("new a[b];", "E>c0.0 "),
-        ("new new A()();", "G:A>c4.0 res4.0>c0.0 "),
-        ("new A().b();", "P:b>c9.0 G:A>c0.0 res0.0>r9.0 "),
+        ("a = new F;", "global:F -> callee:4:0, res:4:0 -> global:a"),
+        (
+            "a = new F(b);",
+            "global:F -> callee:4:0, global:b -> arg:4:0:0, res:4:0 -> global:a",
+        ),
+        (
+            "new a.b(...c, d);",
+            "prop:b -> callee:0:0, elem -> more:0:0, global:d -> more:0:0",
+        ),
+        (
+            "new a.push(b);",
+            "prop:push -> callee:0:0, global:b -> arg:0:0:0",
+        ),
+        (
+            "new a.call(b);",
+            "prop:call -> callee:0:0, global:b -> arg:0:0:0",
+        ),
+        ("new a[b];", "elem -> callee:0:0"),
+        (
+            "new new A()();",
+            "global:A -> callee:4:0, res:4:0 -> callee:0:0",
+        ),
+        (
+            "new A().b();",
+            "prop:b -> callee:9:0, global:A -> callee:0:0, res:0:0 -> recv:9:0",
+        ),
     ] {
-        let line = flows_line(alloc, &constraints_of(alloc, text)?)?;
+        let line = flows_text(alloc, constraints_of(alloc, text)?.flows())?;
         assert!(rt; line.as_str() == want, "{text}: {}", line.as_str());
     }
     Ok(())
@@ -150,16 +235,27 @@ fn templates_behind_a_tag(rt: HostRuntime) -> Result<(), Fail> {
         ("x = `a${b}`;", ""),
         (
             "x = f`a${b}c${d}e`;",
-            "G:b>a5.0.1 G:d>a5.0.2 G:f>c5.0 res5.0>G:x ",
+            "global:b -> arg:5:0:1, global:d -> arg:5:0:2, global:f -> callee:5:0, \
+             res:5:0 -> global:x",
         ),
-        ("a.f`x`;", "P:f>c3.0 G:a>r3.0 "),
-        ("a.push`x${b}`;", "P:push>c6.0 G:a>r6.0 G:b>E G:b>a6.0.1 "),
-        ("a.call`x`;", "P:call>c6.0 G:a>r6.0 "),
-        ("x = a.pop`x`;", "P:pop>c9.0 G:a>r9.0 res9.0>G:x "),
-        ("new a`x`;", "G:a>c5.0 res5.0>c0.0 "),
-        ("f`x`();", "G:f>c1.0 res1.0>c4.0 "),
+        ("a.f`x`;", "prop:f -> callee:3:0, global:a -> recv:3:0"),
+        (
+            "a.push`x${b}`;",
+            "prop:push -> callee:6:0, global:a -> recv:6:0, global:b -> elem, \
+             global:b -> arg:6:0:1",
+        ),
+        (
+            "a.call`x`;",
+            "prop:call -> callee:6:0, global:a -> recv:6:0",
+        ),
+        (
+            "x = a.pop`x`;",
+            "prop:pop -> callee:9:0, global:a -> recv:9:0, res:9:0 -> global:x",
+        ),
+        ("new a`x`;", "global:a -> callee:5:0, res:5:0 -> callee:0:0"),
+        ("f`x`();", "global:f -> callee:1:0, res:1:0 -> callee:4:0"),
     ] {
-        let line = flows_line(alloc, &constraints_of(alloc, text)?)?;
+        let line = flows_text(alloc, constraints_of(alloc, text)?.flows())?;
         assert!(rt; line.as_str() == want, "{text}: {}", line.as_str());
     }
     Ok(())

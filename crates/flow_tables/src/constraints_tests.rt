@@ -1,6 +1,6 @@
-//! Texts, and what is said of each of them: its functions, sites, requires, notes and flows. The lists
-//! were worked out by hand from the rules in docs/FLOW.md.
-use crate::constraints_lines::{first_lines, lines_of};
+//! Texts, and what is said of each of them: its functions, sites, requires, notes and flows. The
+//! lists were worked out by hand from the rules in docs/FLOW.md.
+use crate::lists::{first_lines, lines_of};
 use crate::texts::tree_of;
 use flow_rules::constraints;
 use js_scopes::{bind, functions, sites};
@@ -8,8 +8,8 @@ use std::alloc::Global;
 use std::process::Abort;
 use std::test::Fail;
 
-/// Compares what is said of a text with these lines, one for each list that isn't empty; its functions
-/// and sites are also asked for alone.
+/// Compares what is said of a text with these lines, one for each list that isn't empty; its
+/// functions and sites are also asked for alone.
 pub(crate) fn compare(rt: &impl Abort, alloc: Global, text: &str, lines: &str) -> Result<(), Fail> {
     let tree = tree_of(alloc, text)?;
     let bindings = bind(alloc, &tree)?;

@@ -1,63 +1,90 @@
 //! The functions of texts.
-use crate::texts::{functions_line, tree_of};
+use crate::lists::functions_text;
+use crate::texts::tree_of;
 use js_scopes::functions;
 use std::process::Abort;
 use std::test::Fail;
 
 #[test]
-fn functions_and_their_names(rt: HostRuntime) -> Result<(), Fail> {
+fn functions_of_declarations_and_targets(rt: HostRuntime) -> Result<(), Fail> {
     let alloc = rt.alloc();
     for (text, want) in [
-        ("", ""),
-        ("function f(a, b) { }", "f/2@0 "),
-        ("function f(a,) { }", "f/1@0 "),
-        ("var a = function () { };", "a/0@8 "),
-        ("var a = function g() { };", "g/0@8 "),
-        ("a = function (x) { };", "a/1@4 "),
-        ("a += function () { };", "<anonymous>/0@5 "),
-        ("a.b = function () { };", "b/0@6 "),
-        ("a.b -= function () { };", "<anonymous>/0@7 "),
-        ("a.if = function () { };", "if/0@7 "),
-        ("a.b.c = function () { };", "c/0@8 "),
-        ("a().b = function () { };", "b/0@8 "),
-        ("a[\"b\"] = function () { };", "b/0@9 "),
-        ("a['\\x62'] = function () { };", "b/0@12 "),
-        ("a[\"\\8\"] = function () { };", "<anonymous>/0@10 "),
-        ("a[0] = function () { };", "0/0@7 "),
-        ("a[1.50] = function () { };", "1.50/0@10 "),
-        ("a[b] = function () { };", "<anonymous>/0@7 "),
-        ("a[null] = function () { };", "<anonymous>/0@10 "),
-        ("a[(\"b\")] = function () { };", "<anonymous>/0@11 "),
-        ("a[\"b\" + c] = function () { };", "<anonymous>/0@13 "),
-        ("(a) = function () { };", "<anonymous>/0@6 "),
-        ("(a.b) = function () { };", "<anonymous>/0@8 "),
-        ("a = (function () { });", "<anonymous>/0@5 "),
-        ("a = b = function () { };", "b/0@8 "),
-        ("var a = b = function () { };", "b/0@12 "),
-        ("a = b, function () { };", "<anonymous>/0@7 "),
-        ("var a = 1, b = function () { };", "b/0@15 "),
+        ("", "0/0 <module>"),
+        ("function f(a, b) { }", "0/0 <module>, 0/2 f"),
+        ("function f(a,) { }", "0/0 <module>, 0/1 f"),
+        ("var a = function () { };", "0/0 <module>, 8/0 a"),
+        ("var a = function g() { };", "0/0 <module>, 8/0 g"),
+        ("a = function (x) { };", "0/0 <module>, 4/1 a"),
+        ("a += function () { };", "0/0 <module>, 5/0 <anonymous>"),
+        ("a.b = function () { };", "0/0 <module>, 6/0 b"),
+        ("a.b -= function () { };", "0/0 <module>, 7/0 <anonymous>"),
+        ("a.if = function () { };", "0/0 <module>, 7/0 if"),
+        ("a.b.c = function () { };", "0/0 <module>, 8/0 c"),
+        ("a().b = function () { };", "0/0 <module>, 8/0 b"),
+        ("a[\"b\"] = function () { };", "0/0 <module>, 9/0 b"),
+        ("a['\\x62'] = function () { };", "0/0 <module>, 12/0 b"),
         (
-            "a = b ? function () { } : function () { };",
-            "<anonymous>/0@8 <anonymous>/0@26 ",
+            "a[\"\\8\"] = function () { };",
+            "0/0 <module>, 10/0 <anonymous>",
         ),
-        ("a = b || function () { };", "<anonymous>/0@9 "),
-        ("f(function () { });", "<anonymous>/0@2 "),
-        ("new a.b(function (x) { });", "<anonymous>/1@8 "),
-        ("return function () { };", "<anonymous>/0@7 "),
-        ("a[function () { }] = b;", "<anonymous>/0@2 "),
+        ("a[0] = function () { };", "0/0 <module>, 7/0 0"),
+        ("a[1.50] = function () { };", "0/0 <module>, 10/0 1.50"),
+        ("a[b] = function () { };", "0/0 <module>, 7/0 <anonymous>"),
         (
-            "a = function () { b.c = function () { }; };",
-            "a/0@4 c/0@24 ",
+            "a[null] = function () { };",
+            "0/0 <module>, 10/0 <anonymous>",
         ),
         (
-            "a[function () { }] = function () { };",
-            "<anonymous>/0@2 <anonymous>/0@21 ",
+            "a[(\"b\")] = function () { };",
+            "0/0 <module>, 11/0 <anonymous>",
+        ),
+        (
+            "a[\"b\" + c] = function () { };",
+            "0/0 <module>, 13/0 <anonymous>",
         ),
     ] {
         let tree = tree_of(alloc, text)?;
-        let line = functions_line(alloc, &functions(alloc, &tree)?)?;
-        let want = format!(in alloc; "<module>/0@0 {want}")?;
-        assert!(rt; line.as_str() == want.as_str(), "{text}: {}", line.as_str());
+        let line = functions_text(alloc, functions(alloc, &tree)?.as_slice())?;
+        assert!(rt; line.as_str() == want, "{text}: {}", line.as_str());
+    }
+    Ok(())
+}
+
+#[test]
+fn functions_that_stand_elsewhere(rt: HostRuntime) -> Result<(), Fail> {
+    let alloc = rt.alloc();
+    for (text, want) in [
+        ("(a) = function () { };", "0/0 <module>, 6/0 <anonymous>"),
+        ("(a.b) = function () { };", "0/0 <module>, 8/0 <anonymous>"),
+        ("a = (function () { });", "0/0 <module>, 5/0 <anonymous>"),
+        ("a = b = function () { };", "0/0 <module>, 8/0 b"),
+        ("var a = b = function () { };", "0/0 <module>, 12/0 b"),
+        ("a = b, function () { };", "0/0 <module>, 7/0 <anonymous>"),
+        ("var a = 1, b = function () { };", "0/0 <module>, 15/0 b"),
+        (
+            "a = b ? function () { } : function () { };",
+            "0/0 <module>, 8/0 <anonymous>, 26/0 <anonymous>",
+        ),
+        ("a = b || function () { };", "0/0 <module>, 9/0 <anonymous>"),
+        ("f(function () { });", "0/0 <module>, 2/0 <anonymous>"),
+        (
+            "new a.b(function (x) { });",
+            "0/0 <module>, 8/1 <anonymous>",
+        ),
+        ("return function () { };", "0/0 <module>, 7/0 <anonymous>"),
+        ("a[function () { }] = b;", "0/0 <module>, 2/0 <anonymous>"),
+        (
+            "a = function () { b.c = function () { }; };",
+            "0/0 <module>, 4/0 a, 24/0 c",
+        ),
+        (
+            "a[function () { }] = function () { };",
+            "0/0 <module>, 2/0 <anonymous>, 21/0 <anonymous>",
+        ),
+    ] {
+        let tree = tree_of(alloc, text)?;
+        let line = functions_text(alloc, functions(alloc, &tree)?.as_slice())?;
+        assert!(rt; line.as_str() == want, "{text}: {}", line.as_str());
     }
     Ok(())
 }

@@ -1,16 +1,16 @@
 //! Tables from texts to what `js_scopes` and `flow_rules` say of them.
 //!
-//! `texts` makes the tree of a text and puts lists into one line; the other modules have a table each.
+//! `texts` makes the tree of a text and `lists` puts lists into texts; each other module has a table.
 #![tactic(auto)]
 
 #[cfg(test)]
 mod calls;
 #[cfg(test)]
-mod constraints_lines;
-#[cfg(test)]
 mod constraints_tests;
 #[cfg(test)]
 mod functions;
+#[cfg(test)]
+mod lists;
 #[cfg(test)]
 mod member_tests;
 #[cfg(test)]

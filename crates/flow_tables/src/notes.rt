@@ -1,5 +1,6 @@
 //! The requires and the notes of texts.
-use crate::texts::{constraints_of, notes_line};
+use crate::lists::other_lines;
+use crate::texts::constraints_of;
 use std::process::Abort;
 use std::test::Fail;
 
@@ -7,21 +8,27 @@ use std::test::Fail;
 fn calls_of_require(rt: HostRuntime) -> Result<(), Fail> {
     let alloc = rt.alloc();
     for (text, want) in [
-        ("require(\"x\");", "7 x 0, "),
-        ("require('\\x2e/a');", "7 ./a 0, "),
-        ("require(\"x\", require);", "7 x 0, V13 "),
-        ("function f() { require('a'); }", "22 a 1, "),
-        ("require(\"x\")(\"y\");", "7 x 0, "),
-        ("f(require(\"x\"), require(\"y\"));", "9 x 0, 23 y 0, "),
-        ("require(a);", "D7 "),
-        ("require();", "D7 "),
-        ("require(...a);", "D7 "),
-        ("require(\"\\8\");", "D7 "),
-        ("require(`x`);", "D7 "),
-        ("require((\"x\"));", "D7 "),
-        ("require(require);", "D7 V8 "),
+        ("require(\"x\");", "requires 7 x h0\n"),
+        ("require('\\x2e/a');", "requires 7 ./a h0\n"),
+        (
+            "require(\"x\", require);",
+            "requires 7 x h0\nnotes 13 value\n",
+        ),
+        ("function f() { require('a'); }", "requires 22 a h1\n"),
+        ("require(\"x\")(\"y\");", "requires 7 x h0\n"),
+        (
+            "f(require(\"x\"), require(\"y\"));",
+            "requires 9 x h0, 23 y h0\n",
+        ),
+        ("require(a);", "notes 7 dynamic\n"),
+        ("require();", "notes 7 dynamic\n"),
+        ("require(...a);", "notes 7 dynamic\n"),
+        ("require(\"\\8\");", "notes 7 dynamic\n"),
+        ("require(`x`);", "notes 7 dynamic\n"),
+        ("require((\"x\"));", "notes 7 dynamic\n"),
+        ("require(require);", "notes 7 dynamic, 8 value\n"),
     ] {
-        let line = notes_line(alloc, &constraints_of(alloc, text)?)?;
+        let line = other_lines(alloc, &constraints_of(alloc, text)?)?;
         assert!(rt; line.as_str() == want, "{text}: {}", line.as_str());
     }
     Ok(())
@@ -31,25 +38,25 @@ fn calls_of_require(rt: HostRuntime) -> Result<(), Fail> {
 fn uses_of_require_as_a_value(rt: HostRuntime) -> Result<(), Fail> {
     let alloc = rt.alloc();
     for (text, want) in [
-        ("a = require;", "V4 "),
-        ("var a = require;", "V8 "),
-        ("f(require);", "V2 "),
-        ("f(...require);", "V5 "),
-        ("require = a;", "V0 "),
-        ("(require) = a;", "V1 "),
-        ("require++;", "V0 "),
-        ("(require)(\"x\");", "V1 "),
-        ("new require(\"x\");", "V4 "),
-        ("require`x`;", "V0 "),
-        ("a[require];", "V2 "),
-        ("return require;", "V7 "),
-        ("void require;", "V5 "),
-        ("typeof (require);", "V8 "),
-        ("require || require;", "V0 V11 "),
-        ("new a.b(require);", "V8 "),
-        ("new require.x(require);", "V14 "),
+        ("a = require;", "notes 4 value\n"),
+        ("var a = require;", "notes 8 value\n"),
+        ("f(require);", "notes 2 value\n"),
+        ("f(...require);", "notes 5 value\n"),
+        ("require = a;", "notes 0 value\n"),
+        ("(require) = a;", "notes 1 value\n"),
+        ("require++;", "notes 0 value\n"),
+        ("(require)(\"x\");", "notes 1 value\n"),
+        ("new require(\"x\");", "notes 4 value\n"),
+        ("require`x`;", "notes 0 value\n"),
+        ("a[require];", "notes 2 value\n"),
+        ("return require;", "notes 7 value\n"),
+        ("void require;", "notes 5 value\n"),
+        ("typeof (require);", "notes 8 value\n"),
+        ("require || require;", "notes 0 value, 11 value\n"),
+        ("new a.b(require);", "notes 8 value\n"),
+        ("new require.x(require);", "notes 14 value\n"),
     ] {
-        let line = notes_line(alloc, &constraints_of(alloc, text)?)?;
+        let line = other_lines(alloc, &constraints_of(alloc, text)?)?;
         assert!(rt; line.as_str() == want, "{text}: {}", line.as_str());
     }
     Ok(())
@@ -72,7 +79,7 @@ fn uses_of_require_that_are_not_noted(rt: HostRuntime) -> Result<(), Fail> {
         ("function f(require) { a = require; }", ""),
         ("delete require.x;", ""),
     ] {
-        let line = notes_line(alloc, &constraints_of(alloc, text)?)?;
+        let line = other_lines(alloc, &constraints_of(alloc, text)?)?;
         assert!(rt; line.as_str() == want, "{text}: {}", line.as_str());
     }
     Ok(())

@@ -1,5 +1,6 @@
 //! Where values of texts stand, and what comes to them.
-use crate::texts::{constraints_of, flows_line};
+use crate::lists::flows_text;
+use crate::texts::constraints_of;
 use std::process::Abort;
 use std::test::Fail;
 
@@ -9,10 +10,10 @@ fn names_and_what_has_no_values(rt: HostRuntime) -> Result<(), Fail> {
     for (text, want) in [
         ("a;", ""),
         ("var a;", ""),
-        ("var a = b;", "G:b>v0 "),
-        ("var a = exports;", "X>v0 "),
+        ("var a = b;", "global:b -> var:0"),
+        ("var a = exports;", "exports -> var:0"),
         ("var a = module, b = require;", ""),
-        ("var a = arguments;", "rest0>E "),
+        ("var a = arguments;", "rest:0 -> elem"),
         ("a = this;", ""),
         ("a = 1;", ""),
         ("a = /b/;", ""),
@@ -21,7 +22,7 @@ fn names_and_what_has_no_values(rt: HostRuntime) -> Result<(), Fail> {
         ("a = a;", ""),
         ("a.b = c.b;", ""),
     ] {
-        let line = flows_line(alloc, &constraints_of(alloc, text)?)?;
+        let line = flows_text(alloc, constraints_of(alloc, text)?.flows())?;
         assert!(rt; line.as_str() == want, "{text}: {}", line.as_str());
     }
     Ok(())
@@ -31,30 +32,30 @@ fn names_and_what_has_no_values(rt: HostRuntime) -> Result<(), Fail> {
 fn members(rt: HostRuntime) -> Result<(), Fail> {
     let alloc = rt.alloc();
     for (text, want) in [
-        ("a.b = c;", "G:c>P:b "),
-        ("a[\"b\"] = c;", "G:c>P:b "),
-        ("a['\\x62'] = c;", "G:c>P:b "),
-        ("a[0] = c;", "G:c>E "),
-        ("a[b] = c;", "G:c>E "),
-        ("a[\"\\8\"] = c;", "G:c>E "),
-        ("a[(\"b\")] = c;", "G:c>E "),
-        ("b = a.c;", "P:c>G:b "),
-        ("b = a[c];", "E>G:b "),
-        ("module.exports = a;", "G:a>X "),
-        ("module[\"exports\"] = a;", "G:a>X "),
-        ("(module).exports = a;", "G:a>P:exports "),
-        ("a.module.exports = b;", "G:b>P:exports "),
-        ("a = module.exports;", "X>G:a "),
-        ("a = module.exports.b;", "P:b>G:a "),
-        ("a = exports.b;", "P:b>G:a "),
-        ("module.x = a;", "G:a>P:x "),
-        ("module[exports] = a;", "G:a>E "),
+        ("a.b = c;", "global:c -> prop:b"),
+        ("a[\"b\"] = c;", "global:c -> prop:b"),
+        ("a['\\x62'] = c;", "global:c -> prop:b"),
+        ("a[0] = c;", "global:c -> elem"),
+        ("a[b] = c;", "global:c -> elem"),
+        ("a[\"\\8\"] = c;", "global:c -> elem"),
+        ("a[(\"b\")] = c;", "global:c -> elem"),
+        ("b = a.c;", "prop:c -> global:b"),
+        ("b = a[c];", "elem -> global:b"),
+        ("module.exports = a;", "global:a -> exports"),
+        ("module[\"exports\"] = a;", "global:a -> exports"),
+        ("(module).exports = a;", "global:a -> prop:exports"),
+        ("a.module.exports = b;", "global:b -> prop:exports"),
+        ("a = module.exports;", "exports -> global:a"),
+        ("a = module.exports.b;", "prop:b -> global:a"),
+        ("a = exports.b;", "prop:b -> global:a"),
+        ("module.x = a;", "global:a -> prop:x"),
+        ("module[exports] = a;", "global:a -> elem"),
         (
             "function f(module) { module.exports = a; }",
-            "G:a>P:exports p1.0>v1 f1>v0 ",
+            "global:a -> prop:exports, param:1:0 -> var:1, lit:1 -> var:0",
         ),
     ] {
-        let line = flows_line(alloc, &constraints_of(alloc, text)?)?;
+        let line = flows_text(alloc, constraints_of(alloc, text)?.flows())?;
         assert!(rt; line.as_str() == want, "{text}: {}", line.as_str());
     }
     Ok(())
@@ -64,17 +65,17 @@ fn members(rt: HostRuntime) -> Result<(), Fail> {
 fn targets(rt: HostRuntime) -> Result<(), Fail> {
     let alloc = rt.alloc();
     for (text, want) in [
-        ("a = b;", "G:b>G:a "),
-        ("(a) = b;", "G:b>G:a "),
-        ("((a.b)) = c;", "G:c>P:b "),
+        ("a = b;", "global:b -> global:a"),
+        ("(a) = b;", "global:b -> global:a"),
+        ("((a.b)) = c;", "global:c -> prop:b"),
         ("a += b;", ""),
         ("a.b **= c;", ""),
-        ("var a = b, c = d;", "G:b>v0 G:d>v1 "),
-        ("exports = a;", "G:a>X "),
-        ("require = a; arguments = b;", "rest0>E "),
+        ("var a = b, c = d;", "global:b -> var:0, global:d -> var:1"),
+        ("exports = a;", "global:a -> exports"),
+        ("require = a; arguments = b;", "rest:0 -> elem"),
         ("a++; --b.c;", ""),
     ] {
-        let line = flows_line(alloc, &constraints_of(alloc, text)?)?;
+        let line = flows_text(alloc, constraints_of(alloc, text)?.flows())?;
         assert!(rt; line.as_str() == want, "{text}: {}", line.as_str());
     }
     Ok(())
@@ -84,20 +85,20 @@ fn targets(rt: HostRuntime) -> Result<(), Fail> {
 fn what_passes_values_on(rt: HostRuntime) -> Result<(), Fail> {
     let alloc = rt.alloc();
     for (text, want) in [
-        ("a = (b);", "G:b>G:a "),
-        ("a = ((b.c));", "P:c>G:a "),
-        ("a = b = c;", "G:c>G:a G:c>G:b "),
+        ("a = (b);", "global:b -> global:a"),
+        ("a = ((b.c));", "prop:c -> global:a"),
+        ("a = b = c;", "global:c -> global:a, global:c -> global:b"),
         ("a = (b += c);", ""),
-        ("a = (b, c);", "G:c>G:a "),
-        ("a = (b, c, d.e);", "P:e>G:a "),
-        ("a = b && c;", "G:c>G:a "),
-        ("a = b && c && d;", "G:d>G:a "),
+        ("a = (b, c);", "global:c -> global:a"),
+        ("a = (b, c, d.e);", "prop:e -> global:a"),
+        ("a = b && c;", "global:c -> global:a"),
+        ("a = b && c && d;", "global:d -> global:a"),
         ("a = b & c;", ""),
         ("a = b + c;", ""),
         ("a = b ** c;", ""),
         ("a = b == c;", ""),
     ] {
-        let line = flows_line(alloc, &constraints_of(alloc, text)?)?;
+        let line = flows_text(alloc, constraints_of(alloc, text)?.flows())?;
         assert!(rt; line.as_str() == want, "{text}: {}", line.as_str());
     }
     Ok(())
@@ -107,21 +108,44 @@ fn what_passes_values_on(rt: HostRuntime) -> Result<(), Fail> {
 fn what_joins_values(rt: HostRuntime) -> Result<(), Fail> {
     let alloc = rt.alloc();
     for (text, want) in [
-        ("a = b ? c : d;", "G:c>e0 G:d>e0 e0>G:a "),
-        ("a = b ? c : d ? e : f;", "G:c>e0 G:e>e0 G:f>e0 e0>G:a "),
-        ("a = b || c;", "G:b>e0 G:c>e0 e0>G:a "),
-        ("a = b || c || d;", "G:b>e0 G:c>e0 G:d>e0 e0>G:a "),
-        ("a || a;", "G:a>e0 "),
+        (
+            "a = b ? c : d;",
+            "global:c -> exp:0, global:d -> exp:0, exp:0 -> global:a",
+        ),
+        (
+            "a = b ? c : d ? e : f;",
+            "global:c -> exp:0, global:e -> exp:0, global:f -> exp:0, exp:0 -> global:a",
+        ),
+        (
+            "a = b || c;",
+            "global:b -> exp:0, global:c -> exp:0, exp:0 -> global:a",
+        ),
+        (
+            "a = b || c || d;",
+            "global:b -> exp:0, global:c -> exp:0, global:d -> exp:0, exp:0 -> global:a",
+        ),
+        ("a || a;", "global:a -> exp:0"),
         ("a ? 1 : 2;", ""),
         (
             "a = (b || c) ? d : e || f;",
-            "G:b>e1 G:c>e1 G:d>e0 G:e>e2 G:f>e2 e0>G:a e2>e0 ",
+            "global:b -> exp:1, global:c -> exp:1, global:d -> exp:0, global:e -> exp:2, \
+             global:f -> exp:2, exp:0 -> global:a, exp:2 -> exp:0",
         ),
-        ("a = b || c ? d : e;", "G:b>e1 G:c>e1 G:d>e0 G:e>e0 e0>G:a "),
-        ("a = b && c || d;", "G:c>e0 G:d>e0 e0>G:a "),
-        ("a || b; c || d;", "G:a>e0 G:b>e0 G:c>e1 G:d>e1 "),
+        (
+            "a = b || c ? d : e;",
+            "global:b -> exp:1, global:c -> exp:1, global:d -> exp:0, global:e -> exp:0, \
+             exp:0 -> global:a",
+        ),
+        (
+            "a = b && c || d;",
+            "global:c -> exp:0, global:d -> exp:0, exp:0 -> global:a",
+        ),
+        (
+            "a || b; c || d;",
+            "global:a -> exp:0, global:b -> exp:0, global:c -> exp:1, global:d -> exp:1",
+        ),
     ] {
-        let line = flows_line(alloc, &constraints_of(alloc, text)?)?;
+        let line = flows_text(alloc, constraints_of(alloc, text)?.flows())?;
         assert!(rt; line.as_str() == want, "{text}: {}", line.as_str());
     }
     Ok(())
@@ -131,35 +155,44 @@ fn what_joins_values(rt: HostRuntime) -> Result<(), Fail> {
 fn functions_and_what_they_return(rt: HostRuntime) -> Result<(), Fail> {
     let alloc = rt.alloc();
     for (text, want) in [
-        ("var a = function () { };", "f1>v0 "),
-        ("a.b = function () { };", "f1>P:b "),
-        ("(function g() { });", "f1>v0 "),
-        ("function g() { }", "f1>v0 "),
-        ("function exports() { }", "f1>v0 "),
-        ("function f(a, b) { }", "p1.0>v1 p1.1>v2 f1>v0 "),
-        ("(function (a) { arguments; });", "p1.0>E p1.0>v0 rest1>E "),
+        ("var a = function () { };", "lit:1 -> var:0"),
+        ("a.b = function () { };", "lit:1 -> prop:b"),
+        ("(function g() { });", "lit:1 -> var:0"),
+        ("function g() { }", "lit:1 -> var:0"),
+        ("function exports() { }", "lit:1 -> var:0"),
+        (
+            "function f(a, b) { }",
+            "param:1:0 -> var:1, param:1:1 -> var:2, lit:1 -> var:0",
+        ),
+        (
+            "(function (a) { arguments; });",
+            "param:1:0 -> elem, param:1:0 -> var:0, rest:1 -> elem",
+        ),
         (
             "function f(a) { arguments = 1; }",
-            "p1.0>E p1.0>v1 rest1>E f1>v0 ",
+            "param:1:0 -> elem, param:1:0 -> var:1, rest:1 -> elem, lit:1 -> var:0",
         ),
         (
             "function f(a) { function g() { arguments; } }",
-            "p1.0>v1 rest2>E f1>v0 f2>v2 ",
+            "param:1:0 -> var:1, rest:2 -> elem, lit:1 -> var:0, lit:2 -> var:2",
         ),
         (
             "function f(a) { var arguments; arguments; }",
-            "p1.0>v1 f1>v0 ",
+            "param:1:0 -> var:1, lit:1 -> var:0",
         ),
-        ("function f(a) { return a; }", "p1.0>v1 f1>v0 v1>ret1 "),
-        ("return a;", "G:a>ret0 "),
+        (
+            "function f(a) { return a; }",
+            "param:1:0 -> var:1, lit:1 -> var:0, var:1 -> ret:1",
+        ),
+        ("return a;", "global:a -> ret:0"),
         ("return;", ""),
         ("return 1;", ""),
         (
             "function f() { return function () { return b; }; }",
-            "G:b>ret2 f1>v0 f2>ret1 ",
+            "global:b -> ret:2, lit:1 -> var:0, lit:2 -> ret:1",
         ),
     ] {
-        let line = flows_line(alloc, &constraints_of(alloc, text)?)?;
+        let line = flows_text(alloc, constraints_of(alloc, text)?.flows())?;
         assert!(rt; line.as_str() == want, "{text}: {}", line.as_str());
     }
     Ok(())

@@ -1,5 +1,5 @@
 -- What is said of a call that reads, at each of its exits.
-use Rattle.std.proofs.Common.{◌≡◌, ℕ, List, Result, Ok, Err, sym, subst}
+use Rattle.std.proofs.Common.{◌≡◌, List, Result, Ok, Err, sym, subst}
 use Rattle.std.specs.Result.{IsErrAnd}
 use Rattle.js_tree.specs.Lexing.{Place}
 use Rattle.js_tree.specs.Pieces.{Piece, Onto}

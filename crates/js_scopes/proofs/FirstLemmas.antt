@@ -1,11 +1,11 @@
 -- The names that nodes declare, by the offsets of the tokens that first declare them.
-use Rattle.std.proofs.Common.{◌≡◌, Bool, true, false, not, List, [], ◌∷◌, ◌++◌, map, Bor, ◌+◌, ◌<◌, length, take, get_or, refl, sym, ap, cond, nat_eq, arith, ◌∙◌, append_assoc, append-nil, Option, Some, None, is_some, ◌&&◌, if◌then◌else◌, ℕ}
-use Rattle.std.specs.List.{flat_map, filter}
+use Rattle.std.proofs.Common.{◌≡◌, Bool, true, false, not, List, [], ◌∷◌, ◌++◌, map, ◌+◌, refl, sym, ap, cond, nat_eq, arith, ◌∙◌, append-nil, Option, Some, None, is_some, ◌&&◌, if◌then◌else◌, ℕ}
+use Rattle.std.specs.List.{filter}
 use Rattle.std.specs.Option.{option_map}
 use Rattle.std.specs.Str.{bytes_eq}
 use Rattle.std.proofs.lemmas.Slice.Eq.{bytes_eq-Decides}
-use Rattle.std.proofs.lemmas.Grind.{flat_map-append, common_steps}
-use Rattle.std.proofs.lemmas.List.{map-append, take_more}
+use Rattle.std.proofs.lemmas.Grind.{common_steps}
+use Rattle.std.proofs.lemmas.List.{map-append}
 use Rattle.std.proofs.lemmas.Bool.Decides.{nat_tests}
 use Rattle.js_tree.specs.declared.token.Token.{Token}
 use Rattle.js_scopes.specs.Names.{Scope, firsts, first_in, is_name}

@@ -1,5 +1,5 @@
 -- The items of a node in brackets are fewer than its own tokens.
-use Rattle.std.proofs.Common.{◌≡◌, ℕ, ◌+◌, ◌<◌, ◌≤◌, List, [], ◌∷◌, ◌++◌, map, length, length-append, refl, ap, ◌∙◌, subst, arith, Option, Some, None}
+use Rattle.std.proofs.Common.{◌≡◌, ℕ, ◌+◌, ◌<◌, ◌≤◌, List, [], ◌∷◌, ◌++◌, map, length, length-append, refl, ap, arith, Option, Some, None}
 use Rattle.std.proofs.lemmas.List.{length-map}
 use Rattle.js_tree.specs.declared.lists.Bracket.{Bracket}
 use Rattle.js_tree.specs.declared.lists.Element.{Element}
@@ -8,15 +8,15 @@ use Rattle.js_tree.specs.declared.lists.Tail.{Tail}
 use Rattle.js_tree.specs.declared.lists.Tail.TheVariants as tail
 use Rattle.js_tree.specs.declared.lists.Template.{Template}
 use Rattle.js_tree.specs.declared.token.Token.{Token}
-use Rattle.js_tree.specs.declared.tree.Expr.{Expr, out-Expr}
+use Rattle.js_tree.specs.declared.tree.Expr.{Expr}
 use Rattle.js_tree.specs.declared.tree.Expr.TheOpen.{Expr-F, Function-F}
-use Rattle.js_tree.specs.declared.tree.Function.{Function, out-Function}
-use Rattle.js_tree.specs.Folds.{ExprLayer, FunctionLayer}
-use Rattle.js_tree.specs.Line.{LineItem, AToken, ANode, given_marks, items, possible, tail_items}
-use Rattle.js_tree.specs.Parts.{Node, AnExpr, AFunction, ATail}
+use Rattle.js_tree.specs.declared.tree.Function.{Function}
+use Rattle.js_tree.specs.Folds.{FunctionLayer}
+use Rattle.js_tree.specs.Line.{LineItem, AToken, given_marks, items, possible, tail_items}
+use Rattle.js_tree.specs.Parts.{Node, ATail}
 use Rattle.js_tree.specs.Spelling.Expressions.{expr_row}
 use Rattle.js_tree.specs.Spelling.Functions.{function_row}
-use Rattle.js_tree.specs.Spelling.Rows.{bracket_row, each_of, element_row, listed_row, maybe, template_parts, template_row}
+use Rattle.js_tree.specs.Spelling.Rows.{bracket_row, each_of, element_row, listed_row, maybe, template_parts}
 use Rattle.js_tree.specs.Tokens.{IsInText, own_tokens, tokens_among}
 use Rattle.js_tree.proofs.TextLemmas.{tokens_count}
 use Rattle.js_scopes.specs.Brackets.{elements, listed, placed}

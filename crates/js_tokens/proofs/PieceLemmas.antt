@@ -1,5 +1,5 @@
 -- Tests of the token that stands next, and refusals that are handed on.
-use Rattle.std.proofs.Common.{◌≡◌, ⊎_elim, ◌⊎◌, Bool, true, false, List, sym, ap, ◌∙◌, subst, true≢false, Result, Ok, Err}
+use Rattle.std.proofs.Common.{◌≡◌, ⊎_elim, ◌⊎◌, Bool, true, false, sym, ap, ◌∙◌, subst, true≢false, Result, Ok, Err}
 use Rattle.std.specs.Result.{IsErrAnd}
 use Rattle.js_tree.specs.Lexical.{Next}
 use Rattle.js_tree.specs.Lexing.{Place}

@@ -1,12 +1,10 @@
 -- Levels and targets by the kind of an expression.
-use Rattle.std.proofs.Common.{◌≡◌, ℕ, ◌+◌, ◌<◌, Bool, true, false, List, [], ◌∷◌, ◌++◌, map, length, take, get_or, refl, sym, ap, ◌∙◌, is_some, Option, Some, None, if◌then◌else◌}
+use Rattle.std.proofs.Common.{◌≡◌, ℕ, ◌+◌, ◌<◌, Bool, true, false, List, [], ◌∷◌, ◌++◌, map, length, take, get_or, refl, ap, ◌∙◌, is_some, if◌then◌else◌}
 use Rattle.std.proofs.lemmas.List.{take_more}
 use Rattle.js_tree.specs.declared.level.Level.{Level}
 use Rattle.js_tree.specs.declared.level.Level.TheVariants as level
-use Rattle.js_tree.specs.declared.lists.Bracket.{Bracket}
 use Rattle.js_tree.specs.declared.lists.Tail.{Tail}
 use Rattle.js_tree.specs.declared.lists.Tail.TheVariants as tail
-use Rattle.js_tree.specs.declared.token.Token.{Token}
 use Rattle.js_tree.specs.declared.tree.Expr.{Expr, out-Expr}
 use Rattle.js_tree.specs.declared.tree.Expr.TheOpen.{Expr-F}
 use Rattle.js_tree.specs.Folds.{ExprLayer}

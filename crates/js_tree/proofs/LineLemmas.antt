@@ -1,5 +1,5 @@
 -- The tokens of a node are those of the items of its line, one after another, and its line is less to do than the node.
-use Rattle.std.proofs.Common.{◌≡◌, ℕ, ◌+◌, ◌<◌, Bool, List, [], ◌∷◌, ◌++◌, map, length, reverse, refl, sym, ap, ◌∙◌, subst, append_assoc, append-nil, arith, Option, Some, None, length-append}
+use Rattle.std.proofs.Common.{◌≡◌, ℕ, ◌+◌, ◌<◌, Bool, List, [], ◌∷◌, ◌++◌, map, length, reverse, refl, sym, ap, ◌∙◌, append_assoc, append-nil, arith, Option, Some, None, length-append}
 use Rattle.std.specs.List.{AllByRecursion, flat_map, sum_by}
 use Rattle.std.proofs.lemmas.List.Folds.{flat_map-map}
 use Rattle.std.proofs.lemmas.List.Sums.{sum-map, sum_by-cons}
@@ -11,19 +11,19 @@ use Rattle.js_tree.specs.declared.tree.Function.{Function, out-Function}
 use Rattle.js_tree.specs.declared.tree.Pattern.{Pattern, out-Pattern}
 use Rattle.js_tree.specs.declared.tree.Slot.{Slot, out-Slot}
 use Rattle.js_tree.specs.declared.tree.Stmt.{Stmt, out-Stmt}
-use Rattle.js_tree.specs.Line.{LineItem, AToken, ANode, items, possible, tail_items, line_of, spelling_of, tokens_in, tokens_at, work_for}
+use Rattle.js_tree.specs.Line.{LineItem, AToken, ANode, items, possible, line_of, spelling_of, tokens_in, tokens_at, work_for}
 use Rattle.js_tree.specs.Parts.{Node, AnExpr, AFunction, APattern, AStmt, ASlot, ATail, ABody, each_tail, nodes, tails_behind, parts, count, left_in}
-use Rattle.js_tree.specs.Pieces.{Piece, Tok, Ahead, tokens}
+use Rattle.js_tree.specs.Pieces.{Piece, Tok, tokens}
 use Rattle.js_tree.specs.Spelling.{expr, function, pattern, stmt, slot, stmts}
 use Rattle.js_tree.specs.Spelling.Expressions.{expr_musts, expr_row}
 use Rattle.js_tree.specs.Spelling.Functions.{function_musts, function_row}
 use Rattle.js_tree.specs.Spelling.Statements.{stmt_musts, stmt_row}
-use Rattle.js_tree.specs.Spelling.Nodes.{Seen, pieces, lines, musts, seen_line}
+use Rattle.js_tree.specs.Spelling.Nodes.{pieces, musts, seen_line}
 use Rattle.js_tree.specs.Spelling.Rows.{Writer, each_of, maybe, tail_row}
 use Rattle.js_tree.proofs.Folds.{map_tail}
 use Rattle.js_tree.proofs.GatherLemmas.{along_parts}
 use Rattle.js_tree.proofs.PartLemmas.{Any, all_any, count_is}
-use Rattle.js_tree.proofs.RowLemmas.{over, tail_map}
+use Rattle.js_tree.proofs.RowLemmas.{tail_map}
 use Rattle.js_tree.proofs.RowPairs.{Keeps, expr_keeps, function_keeps, pattern_keeps, stmt_keeps, slot_keeps, tail_keeps, body_keeps}
 use Rattle.js_tree.proofs.SpellingLemmas.{expr_line, function_line, pattern_line, stmt_line, slot_line, seen_lines, expr_layer, function_layer, stmt_layer}
 use Rattle.js_tree.proofs.WalkLemmas.{left_more, sum_more, sum_mapped}

@@ -13,7 +13,7 @@ use Rattle.js_tree.specs.Spelling.Nodes.{unmarked}
 use Rattle.js_tree.specs.Spelling.Rows.{bracket_row, each_of, element_row, listed_row, maybe, template_parts}
 use Rattle.js_tree.proofs.Adding.{possible_onto}
 use Rattle.js_tree.proofs.PartLemmas.{Any, all_any}
-use Rattle.js_tree.proofs.RowPairs.{Keeps, arguments_keeps, params_keeps}
+use Rattle.js_tree.proofs.RowPairs.{Keeps, params_keeps}
 
 -- a row in front of what was added
 pub then_put : {A : Type 0} (row : List A → List A) → ((rest : List A) → row rest ≡ row [] ++ rest) → (old mid new rest : List A) → mid ≡ old ++ row [] → new ≡ mid ++ rest → new ≡ old ++ row rest

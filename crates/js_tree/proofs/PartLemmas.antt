@@ -1,5 +1,5 @@
 -- Each part is lower than its node, and what is made of a node is made from what is made of its parts.
-use Rattle.std.proofs.Common.{◌≡◌, ℕ, zero, suc, ◌+◌, ◌-◌, ◌<◌, ◌≤◌, max, List, [], ◌∷◌, ◌++◌, map, sum, refl, sym, ap, ◌∙◌, append-nil, arith, Option, Some, None}
+use Rattle.std.proofs.Common.{◌≡◌, ℕ, zero, suc, ◌+◌, ◌-◌, ◌<◌, ◌≤◌, max, List, [], ◌∷◌, ◌++◌, map, sum, refl, ap, ◌∙◌, append-nil, arith, Option, Some, None}
 use Rattle.std.specs.List.{AllByRecursion, flat_map}
 use Rattle.std.proofs.lemmas.List.Folds.{flat_map-map}
 use Rattle.js_tree.specs.declared.lists.Tail.{Tail}
@@ -11,12 +11,8 @@ use Rattle.js_tree.specs.declared.tree.Stmt.{Stmt, out-Stmt, fold_out-Stmt}
 use Rattle.js_tree.specs.Folds.{fold_expr, fold_function, fold_pattern, fold_stmt, fold_slot}
 use Rattle.js_tree.specs.Parts.{Node, AnExpr, AFunction, APattern, AStmt, ASlot, ATail, ABody, nodes, tails_behind, parts, greatest, heights, above_expr, above_stmt, height, folded_to, folded, count, unless_passed, gathered}
 use Rattle.js_tree.specs.Spelling.{tallest_of}
-use Rattle.js_tree.specs.Spelling.Expressions.{expr_row}
-use Rattle.js_tree.specs.Spelling.Functions.{function_row}
-use Rattle.js_tree.specs.Spelling.Patterns.{pattern_row, slot_row}
 use Rattle.js_tree.specs.Spelling.Rows.{Writer, each_of, tail_row}
 use Rattle.js_tree.specs.Spelling.Nodes.{unmarked}
-use Rattle.js_tree.specs.Spelling.Statements.{stmt_row}
 use Rattle.js_tree.proofs.RowLemmas.{over, tails_map, expr_over, function_over, pattern_over, stmt_over, slot_over}
 use Rattle.js_tree.proofs.RowPairs.{Keeps, expr_keeps, function_keeps, pattern_keeps, stmt_keeps, slot_keeps, tail_keeps, body_keeps}
 

@@ -1,19 +1,12 @@
 -- What two uses of the rows have to do with each other.
-use Rattle.std.proofs.Common.{◌≡◌, ℕ, ◌+◌, ◌<◌, Bool, List, [], ◌∷◌, ◌++◌, map, length, take, drop, get_or, refl, sym, ap, ◌∙◌, add-one, Option, Some, None}
-use Rattle.std.specs.List.{AllByRecursion}
+use Rattle.std.proofs.Common.{◌≡◌, ℕ, ◌+◌, ◌<◌, List, [], ◌∷◌, map, length, take, drop, get_or, refl, sym, ap, ◌∙◌, add-one, Option, Some, None}
 use Rattle.std.proofs.Math.Seq.{drop-cons}
 use Rattle.std.proofs.lemmas.List.{take_more}
-use Rattle.js_tree.specs.declared.lists.Arm.{Arm}
 use Rattle.js_tree.specs.declared.lists.Bracket.{Bracket}
-use Rattle.js_tree.specs.declared.lists.Element.{Element}
-use Rattle.js_tree.specs.declared.lists.Further.{Further}
-use Rattle.js_tree.specs.declared.lists.Init.{Init}
 use Rattle.js_tree.specs.declared.lists.Listed.{Listed}
 use Rattle.js_tree.specs.declared.lists.Tail.{Tail}
 use Rattle.js_tree.specs.declared.lists.Tail.TheVariants as tail
 use Rattle.js_tree.specs.declared.lists.Template.{Template}
-use Rattle.js_tree.specs.declared.token.Token.{Token}
-use Rattle.js_tree.specs.declared.token_kind.TokenKind.{TokenKind}
 use Rattle.js_tree.specs.declared.token_kind.TokenKind.TheVariants as kind
 use Rattle.js_tree.specs.declared.tree.Expr.{Expr}
 use Rattle.js_tree.specs.declared.tree.Expr.TheOpen.{Expr-F, Function-F, Pattern-F, Stmt-F, Slot-F}
@@ -22,16 +15,15 @@ use Rattle.js_tree.specs.declared.tree.Pattern.{Pattern}
 use Rattle.js_tree.specs.declared.tree.Slot.{Slot}
 use Rattle.js_tree.specs.declared.tree.Stmt.{Stmt}
 use Rattle.js_tree.specs.Folds.{ExprLayer, FunctionLayer, PatternLayer, StmtLayer, SlotLayer}
-use Rattle.js_tree.specs.Operators.{begins_plain, is_assignment, is_binary, is_literal, is_member_name, is_unary, is_update, on_line}
-use Rattle.js_tree.specs.Parts.{Node, AnExpr, AFunction, APattern, AStmt, ASlot, ATail, each_tail, nodes, tails_behind}
+use Rattle.js_tree.specs.Operators.{is_binary, on_line}
+use Rattle.js_tree.specs.Parts.{Node, ATail, each_tail}
 use Rattle.js_tree.specs.Spelling.Expressions.{expr_row}
 use Rattle.js_tree.specs.Spelling.Functions.{function_row}
 use Rattle.js_tree.specs.Spelling.Patterns.{pattern_row, slot_row}
 use Rattle.js_tree.specs.Spelling.Rows.{Marks, Writer, mark, may_mark, each_of, maybe, further_row, listed_row, element_row, bracket_row, template_head, template_mark, template_parts, template_row, tail_row, arm_row, init_row}
-use Rattle.js_tree.specs.Spelling.Nodes.{unmarked}
 use Rattle.js_tree.specs.Spelling.Statements.{stmt_row}
 use Rattle.js_tree.specs.TokenKinds.{is}
-use Rattle.js_tree.proofs.Folds.{map_maybe, map_further, map_listed, map_element, map_bracket, map_template, map_tail, map_arm, map_init, map_block, seen_expr, seen_function, seen_pattern, seen_stmt, seen_slot, layer-Chain, layer-New, layer-Keyword, layer-Return, layer-Slot}
+use Rattle.js_tree.proofs.Folds.{map_maybe, map_further, map_listed, map_element, map_bracket, map_template, map_tail, map_arm, map_init, seen_expr, seen_function, seen_pattern, seen_stmt, seen_slot, layer-Chain, layer-New, layer-Keyword, layer-Return, layer-Slot}
 
 -- the next tail of a chain
 pub drop_next : {X : Type 0} (xs : List X) (i : ℕ) (d : X) → i < length xs → drop i xs ≡ get_or xs i d ∷ drop (i + 1) xs

@@ -174,6 +174,7 @@ fn push_tail<'t>(
     }
 }
 
+/// Adds a token.
 pub fn push_token<'t>(token: &'t Token, out: &mut Vec<LineItem<'t>>) -> Result<(), OutOfMemory>
     ensures { OnOk result (map item_of out.new.items ≡ map item_of out.old.items ++ AToken token.now ∷ []) }
 {
@@ -181,6 +182,7 @@ pub fn push_token<'t>(token: &'t Token, out: &mut Vec<LineItem<'t>>) -> Result<(
     Ok(())
 }
 
+/// Adds a node.
 pub fn push_node<'t>(node: Node<'t>, out: &mut Vec<LineItem<'t>>) -> Result<(), OutOfMemory>
     ensures { OnOk result (map item_of out.new.items ≡ map item_of out.old.items ++ ANode (node_of node.entry) ∷ []) }
 {

@@ -11,7 +11,7 @@ use crate::tree::{Expr, Slot};
 use jam_base::OutOfMemory;
 use sqlite_items::Boxed;
 
-// Adds arguments, where there are any.
+/// Adds arguments, where there are any.
 pub fn push_arguments<'t>(
     args: &'t Option<Boxed<Bracket<Boxed<Expr>>>>,
     out: &mut Vec<LineItem<'t>>,
@@ -24,7 +24,7 @@ pub fn push_arguments<'t>(
     }
 }
 
-// Adds items in brackets.
+/// Adds items in brackets.
 pub fn push_bracket<'t>(
     bracket: &'t Bracket<Boxed<Expr>>,
     out: &mut Vec<LineItem<'t>>,
@@ -37,7 +37,7 @@ pub fn push_bracket<'t>(
     push_token(&bracket.close, out)
 }
 
-// Adds the items that have a comma behind them.
+/// Adds the items that have a comma behind them.
 pub fn push_front<'t>(
     front: &'t [Listed<Element<Boxed<Expr>>>],
     out: &mut Vec<LineItem<'t>>,
@@ -50,6 +50,7 @@ pub fn push_front<'t>(
     Ok(())
 }
 
+/// Adds an item and its comma.
 pub fn push_listed<'t>(
     listed: &'t Listed<Element<Boxed<Expr>>>,
     out: &mut Vec<LineItem<'t>>,
@@ -60,7 +61,7 @@ pub fn push_listed<'t>(
     push_token(&listed.mark, out)
 }
 
-// Adds the last item, where it has no comma.
+/// Adds the last item, where it has no comma.
 pub fn push_last<'t>(
     last: &'t Option<Element<Boxed<Expr>>>,
     out: &mut Vec<LineItem<'t>>,
@@ -73,6 +74,7 @@ pub fn push_last<'t>(
     }
 }
 
+/// Adds an item with its dots.
 pub fn push_element<'t>(
     element: &'t Element<Boxed<Expr>>,
     out: &mut Vec<LineItem<'t>>,
@@ -83,7 +85,7 @@ pub fn push_element<'t>(
     push_node(Node::Expr(element.value.get()), out)
 }
 
-// Adds items in brackets.
+/// Adds items in brackets.
 pub fn push_params<'t>(
     bracket: &'t Bracket<Slot>,
     out: &mut Vec<LineItem<'t>>,
@@ -96,7 +98,7 @@ pub fn push_params<'t>(
     push_token(&bracket.close, out)
 }
 
-// Adds the items that have a comma behind them.
+/// Adds the items that have a comma behind them.
 pub fn push_front_slots<'t>(
     front: &'t [Listed<Element<Slot>>],
     out: &mut Vec<LineItem<'t>>,
@@ -109,6 +111,7 @@ pub fn push_front_slots<'t>(
     Ok(())
 }
 
+/// Adds a parameter and its comma.
 pub fn push_listed_slot<'t>(
     listed: &'t Listed<Element<Slot>>,
     out: &mut Vec<LineItem<'t>>,
@@ -119,7 +122,7 @@ pub fn push_listed_slot<'t>(
     push_token(&listed.mark, out)
 }
 
-// Adds the last item, where it has no comma.
+/// Adds the last item, where it has no comma.
 pub fn push_last_slot<'t>(
     last: &'t Option<Element<Slot>>,
     out: &mut Vec<LineItem<'t>>,
@@ -132,6 +135,7 @@ pub fn push_last_slot<'t>(
     }
 }
 
+/// Adds a parameter with its dots.
 pub fn push_element_slot<'t>(
     element: &'t Element<Slot>,
     out: &mut Vec<LineItem<'t>>,

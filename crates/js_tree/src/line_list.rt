@@ -13,7 +13,7 @@ use crate::tree::{Expr, Slot, Stmt};
 use jam_base::OutOfMemory;
 use sqlite_items::Boxed;
 
-// Adds what `new` makes.
+/// Adds what `new` makes.
 pub fn push_new<'t>(
     word: &'t Token,
     head: &'t Expr,
@@ -28,7 +28,7 @@ pub fn push_new<'t>(
     push_arguments(args, out)
 }
 
-// Adds a choice.
+/// Adds a choice.
 pub fn push_choice<'t>(
     arms: &'t [Arm<Boxed<Expr>>],
     last: &'t Expr,
@@ -40,7 +40,7 @@ pub fn push_choice<'t>(
     push_node(Node::Expr(last), out)
 }
 
-// Adds a function.
+/// Adds a function.
 pub fn push_keyword<'t>(
     word: &'t Token,
     name: &'t Option<Token>,
@@ -56,7 +56,7 @@ pub fn push_keyword<'t>(
     push_block(body, out)
 }
 
-// Adds a declaration.
+/// Adds a declaration.
 pub fn push_vars<'t>(
     word: &'t Token,
     first: &'t Slot,
@@ -72,7 +72,7 @@ pub fn push_vars<'t>(
     push_possible(semi, out)
 }
 
-// Adds the end of a function.
+/// Adds the end of a function.
 pub fn push_return<'t>(
     word: &'t Token,
     value: &'t Option<Boxed<Expr>>,
@@ -86,7 +86,7 @@ pub fn push_return<'t>(
     push_possible(semi, out)
 }
 
-// Adds a token, where there is one.
+/// Adds a token, where there is one.
 pub fn push_possible<'t>(
     token: &'t Option<Token>,
     out: &mut Vec<LineItem<'t>>,
@@ -99,7 +99,7 @@ pub fn push_possible<'t>(
     }
 }
 
-// Adds an expression, where there is one.
+/// Adds an expression, where there is one.
 pub fn push_value<'t>(
     value: &'t Option<Boxed<Expr>>,
     out: &mut Vec<LineItem<'t>>,
@@ -112,7 +112,7 @@ pub fn push_value<'t>(
     }
 }
 
-// Adds what a slot is given.
+/// Adds what a slot is given.
 pub fn push_init<'t>(
     init: &'t Option<Init<Boxed<Expr>>>,
     out: &mut Vec<LineItem<'t>>,
@@ -128,7 +128,7 @@ pub fn push_init<'t>(
     }
 }
 
-// Adds what stands first in a chain, and its tails.
+/// Adds what stands first in a chain, and its tails.
 pub fn push_chain<'t>(
     head: &'t Expr,
     tails: &'t [Tail<Boxed<Expr>>],
@@ -140,7 +140,7 @@ pub fn push_chain<'t>(
     push_tails(head, tails, out)
 }
 
-// Adds the tails behind this head.
+/// Adds the tails behind this head.
 pub fn push_tails<'t>(
     head: &'t Expr,
     tails: &'t [Tail<Boxed<Expr>>],
@@ -159,7 +159,7 @@ pub fn push_tails<'t>(
     Ok(())
 }
 
-// Adds one or more expressions, with what stands between them.
+/// Adds one or more expressions, with what stands between them.
 pub fn push_several<'t>(
     first: &'t Expr,
     rest: &'t [Further<Boxed<Expr>>],
@@ -171,7 +171,7 @@ pub fn push_several<'t>(
     push_further(rest, out)
 }
 
-// Adds further expressions, each with its mark.
+/// Adds further expressions, each with its mark.
 pub fn push_further<'t>(
     rest: &'t [Further<Boxed<Expr>>],
     out: &mut Vec<LineItem<'t>>,
@@ -184,6 +184,7 @@ pub fn push_further<'t>(
     Ok(())
 }
 
+/// Adds a further expression behind its mark.
 pub fn push_operand<'t>(
     further: &'t Further<Boxed<Expr>>,
     out: &mut Vec<LineItem<'t>>,
@@ -194,7 +195,7 @@ pub fn push_operand<'t>(
     push_node(Node::Expr(further.item.get()), out)
 }
 
-// Adds further slots, each with its comma.
+/// Adds further slots, each with its comma.
 pub fn push_further_slots<'t>(
     rest: &'t [Further<Slot>],
     out: &mut Vec<LineItem<'t>>,
@@ -207,6 +208,7 @@ pub fn push_further_slots<'t>(
     Ok(())
 }
 
+/// Adds a further slot behind its comma.
 pub fn push_further_slot<'t>(
     further: &'t Further<Slot>,
     out: &mut Vec<LineItem<'t>>,
@@ -217,7 +219,7 @@ pub fn push_further_slot<'t>(
     push_node(Node::Slot(&further.item), out)
 }
 
-// Adds the arms of a choice.
+/// Adds the arms of a choice.
 pub fn push_arms<'t>(
     arms: &'t [Arm<Boxed<Expr>>],
     out: &mut Vec<LineItem<'t>>,
@@ -230,6 +232,7 @@ pub fn push_arms<'t>(
     Ok(())
 }
 
+/// Adds an arm of a choice.
 pub fn push_arm<'t>(
     arm: &'t Arm<Boxed<Expr>>,
     out: &mut Vec<LineItem<'t>>,
@@ -242,7 +245,7 @@ pub fn push_arm<'t>(
     push_token(&arm.colon, out)
 }
 
-// Adds a template.
+/// Adds a template.
 pub fn push_template<'t>(
     template: &'t Template<Boxed<Expr>>,
     out: &mut Vec<LineItem<'t>>,
@@ -253,7 +256,7 @@ pub fn push_template<'t>(
     push_substitutions(template.parts.as_slice(), out)
 }
 
-// Adds the substitutions of a template, each with the part behind it.
+/// Adds the substitutions of a template, each with the part behind it.
 pub fn push_substitutions<'t>(
     parts: &'t [Listed<Boxed<Expr>>],
     out: &mut Vec<LineItem<'t>>,
@@ -266,6 +269,7 @@ pub fn push_substitutions<'t>(
     Ok(())
 }
 
+/// Adds a substitution and the part behind it.
 pub fn push_substitution<'t>(
     part: &'t Listed<Boxed<Expr>>,
     out: &mut Vec<LineItem<'t>>,
@@ -276,7 +280,7 @@ pub fn push_substitution<'t>(
     push_token(&part.mark, out)
 }
 
-// Adds statements in braces.
+/// Adds statements in braces.
 pub fn push_block<'t>(
     block: &'t Block<Stmt>,
     out: &mut Vec<LineItem<'t>>,
@@ -288,7 +292,7 @@ pub fn push_block<'t>(
     push_token(&block.end, out)
 }
 
-// Adds statements.
+/// Adds statements.
 pub fn push_body<'t>(body: &'t [Stmt], out: &mut Vec<LineItem<'t>>) -> Result<(), OutOfMemory>
     ensures { OnOk result (map item_of out.new.items ≡ map item_of out.old.items ++ each_of items.stmt body.now []) }
 {

@@ -10,7 +10,7 @@ use crate::tree::{Expr, Slot, Stmt};
 use jam_base::OutOfMemory;
 use sqlite_items::Boxed;
 
-// Adds two nodes.
+/// Adds two nodes.
 pub fn push_two<'t>(
     first: Node<'t>,
     second: Node<'t>,
@@ -22,7 +22,7 @@ pub fn push_two<'t>(
     push(second, out)
 }
 
-// Adds what `new` makes something of, and the arguments.
+/// Adds what `new` makes something of, and the arguments.
 pub fn push_new<'t>(
     head: &'t Expr,
     tails: &'t [Tail<Boxed<Expr>>],
@@ -35,7 +35,7 @@ pub fn push_new<'t>(
     push_arguments(args, out)
 }
 
-// Adds the tests and values of a choice.
+/// Adds the tests and values of a choice.
 pub fn push_choice<'t>(
     arms: &'t [Arm<Boxed<Expr>>],
     last: &'t Expr,
@@ -47,7 +47,7 @@ pub fn push_choice<'t>(
     push(Node::Expr(last), out)
 }
 
-// Adds the substitutions of a template.
+/// Adds the substitutions of a template.
 pub fn push_template<'t>(
     template: &'t Template<Boxed<Expr>>,
     out: &mut Vec<Node<'t>>,
@@ -57,7 +57,7 @@ pub fn push_template<'t>(
     push_substitutions(template.parts.as_slice(), out)
 }
 
-// Adds the parameters and the body of a function.
+/// Adds the parameters and the body of a function.
 pub fn push_keyword<'t>(
     params: &'t Bracket<Slot>,
     body: &'t [Stmt],
@@ -69,7 +69,7 @@ pub fn push_keyword<'t>(
     push_stmts(body, out)
 }
 
-// Adds an expression, where there is one.
+/// Adds an expression, where there is one.
 pub fn push_value<'t>(
     value: &'t Option<Boxed<Expr>>,
     out: &mut Vec<Node<'t>>,
@@ -82,7 +82,7 @@ pub fn push_value<'t>(
     }
 }
 
-// Adds what stands first in a chain, and its tails.
+/// Adds what stands first in a chain, and its tails.
 pub fn push_chain<'t>(
     head: &'t Expr,
     tails: &'t [Tail<Boxed<Expr>>],
@@ -94,7 +94,7 @@ pub fn push_chain<'t>(
     push_tails(head, tails, out)
 }
 
-// Adds the tails behind this head.
+/// Adds the tails behind this head.
 pub fn push_tails<'t>(
     head: &'t Expr,
     tails: &'t [Tail<Boxed<Expr>>],
@@ -113,7 +113,7 @@ pub fn push_tails<'t>(
     Ok(())
 }
 
-// Adds one or more expressions.
+/// Adds one or more expressions.
 pub fn push_several<'t>(
     first: &'t Expr,
     rest: &'t [Further<Boxed<Expr>>],
@@ -125,7 +125,7 @@ pub fn push_several<'t>(
     push_further(rest, out)
 }
 
-// Adds further expressions.
+/// Adds further expressions.
 pub fn push_further<'t>(
     rest: &'t [Further<Boxed<Expr>>],
     out: &mut Vec<Node<'t>>,
@@ -138,7 +138,7 @@ pub fn push_further<'t>(
     Ok(())
 }
 
-// Adds further slots.
+/// Adds further slots.
 pub fn push_further_slots<'t>(
     rest: &'t [Further<Slot>],
     out: &mut Vec<Node<'t>>,
@@ -151,7 +151,7 @@ pub fn push_further_slots<'t>(
     Ok(())
 }
 
-// Adds the arms of a choice.
+/// Adds the arms of a choice.
 pub fn push_arms<'t>(
     arms: &'t [Arm<Boxed<Expr>>],
     out: &mut Vec<Node<'t>>,
@@ -164,6 +164,7 @@ pub fn push_arms<'t>(
     Ok(())
 }
 
+/// Adds the test and the value of an arm.
 pub fn push_arm<'t>(arm: &'t Arm<Boxed<Expr>>, out: &mut Vec<Node<'t>>) -> Result<(), OutOfMemory>
     ensures { OnOk result (map node_of out.new.items ≡ map node_of out.old.items ++ AnExpr arm.now.test ∷ AnExpr arm.now.value ∷ []) }
 {
@@ -171,7 +172,7 @@ pub fn push_arm<'t>(arm: &'t Arm<Boxed<Expr>>, out: &mut Vec<Node<'t>>) -> Resul
     push(Node::Expr(arm.value.get()), out)
 }
 
-// Adds the substitutions of a template.
+/// Adds the substitutions of a template.
 pub fn push_substitutions<'t>(
     parts: &'t [Listed<Boxed<Expr>>],
     out: &mut Vec<Node<'t>>,
@@ -184,7 +185,7 @@ pub fn push_substitutions<'t>(
     Ok(())
 }
 
-// Adds arguments, where there are any.
+/// Adds arguments, where there are any.
 pub fn push_arguments<'t>(
     args: &'t Option<Boxed<Bracket<Boxed<Expr>>>>,
     out: &mut Vec<Node<'t>>,
@@ -197,7 +198,7 @@ pub fn push_arguments<'t>(
     }
 }
 
-// Adds the items in brackets.
+/// Adds the items in brackets.
 pub fn push_bracket<'t>(
     bracket: &'t Bracket<Boxed<Expr>>,
     out: &mut Vec<Node<'t>>,
@@ -208,7 +209,7 @@ pub fn push_bracket<'t>(
     push_last(&bracket.last, out)
 }
 
-// Adds the items that have a comma behind them.
+/// Adds the items that have a comma behind them.
 pub fn push_front<'t>(
     front: &'t [Listed<Element<Boxed<Expr>>>],
     out: &mut Vec<Node<'t>>,
@@ -221,7 +222,7 @@ pub fn push_front<'t>(
     Ok(())
 }
 
-// Adds the last item, where it has no comma.
+/// Adds the last item, where it has no comma.
 pub fn push_last<'t>(
     last: &'t Option<Element<Boxed<Expr>>>,
     out: &mut Vec<Node<'t>>,
@@ -234,7 +235,7 @@ pub fn push_last<'t>(
     }
 }
 
-// Adds the items in brackets.
+/// Adds the items in brackets.
 pub fn push_params<'t>(
     bracket: &'t Bracket<Slot>,
     out: &mut Vec<Node<'t>>,
@@ -245,7 +246,7 @@ pub fn push_params<'t>(
     push_last_slot(&bracket.last, out)
 }
 
-// Adds the items that have a comma behind them.
+/// Adds the items that have a comma behind them.
 pub fn push_front_slots<'t>(
     front: &'t [Listed<Element<Slot>>],
     out: &mut Vec<Node<'t>>,
@@ -258,7 +259,7 @@ pub fn push_front_slots<'t>(
     Ok(())
 }
 
-// Adds the last item, where it has no comma.
+/// Adds the last item, where it has no comma.
 pub fn push_last_slot<'t>(
     last: &'t Option<Element<Slot>>,
     out: &mut Vec<Node<'t>>,
@@ -271,7 +272,7 @@ pub fn push_last_slot<'t>(
     }
 }
 
-// Adds statements.
+/// Adds statements.
 pub fn push_stmts<'t>(body: &'t [Stmt], out: &mut Vec<Node<'t>>) -> Result<(), OutOfMemory>
     ensures { OnOk result (map node_of out.new.items ≡ map node_of out.old.items ++ each_of nodes.stmt body.now []) }
 {

@@ -1,8 +1,7 @@
 -- The alternative at the front of a stretch.
-use Rattle.std.proofs.Common.{◌≡◌, ℕ, ◌+◌, ◌<◌, List, [], ◌∷◌, length, take, drop, Some, suc, ap, arith}
-use Rattle.std.proofs.lemmas.List.{length-drop}
+use Rattle.std.proofs.Common.{◌≡◌, ℕ, ◌+◌, ◌<◌, List, [], ◌∷◌, length, take, drop, Some, arith}
 use Rattle.std.specs.Str.Pattern.{HasTextAt, LacksTextAt}
-use Rattle.npm_range.specs.Grammar.{IsFront, Stretch}
+use Rattle.npm_range.specs.Grammar.{IsFront}
 
 -- what `split_once` finds is the front
 pub IsFront-found : (n i j : ℕ) (text front rest : List ℕ) → ((k : ℕ) → k < i → LacksTextAt (124 ∷ 124 ∷ []) text k)

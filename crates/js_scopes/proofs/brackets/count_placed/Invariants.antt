@@ -1,4 +1,4 @@
-use Rattle.std.proofs.Common.{◌≡◌, ◌+◌, ◌≤◌, length}
+use Rattle.std.proofs.Common.{◌≡◌, ◌+◌, length}
 use Rattle.js_scopes.specs.Brackets.{elements, listed, placed}
 use Rattle.js_scopes.proofs.BracketLemmas.{placed_from}
 use Rattle.js_scopes.proofs.brackets.count_placed.Given as goal

@@ -1,4 +1,4 @@
-use Rattle.std.proofs.Common.{◌+◌, arith, length, subst}
+use Rattle.std.proofs.Common.{arith, length, subst}
 use Rattle.js_tree.specs.Parts.{ATail}
 use Rattle.js_tree.specs.Tokens.{IsInText}
 use Rattle.js_scopes.specs.Brackets.{elements}

@@ -6,7 +6,7 @@ use Rattle.std.specs.Ordering.{nat_cmp}
 use Rattle.std.specs.Str.{bytes_eq}
 use Rattle.std.proofs.lemmas.Map.Text.{btree_map_updates_str}
 use Rattle.js_scopes.specs.Names.{first_in}
-use Rattle.js_scopes.proofs.FirstLemmas.{found_before, found_first, listed_before, listed_first, starts_of, mapped_there}
+use Rattle.js_scopes.proofs.FirstLemmas.{found_before, found_first, listed_before, listed_first, mapped_there}
 use Rattle.js_scopes.proofs.declaration.keep.Goals as goal
 
 pub returns-then-contains_key : goal.returns-then-contains_key

@@ -1,11 +1,9 @@
-use Rattle.std.proofs.Common.{◌≡◌, List, Bor, ◌++◌, ◌∷◌, map, subst, sym, ap, ◌∙◌, arith, Some, None}
+use Rattle.std.proofs.Common.{◌≡◌, ◌++◌, ◌∷◌, map, subst, sym, ap, ◌∙◌, arith, Some, None}
 use Rattle.std.specs.List.{AllByRecursion, flat_map}
-use Rattle.std.specs.Option.{option_map}
 use Rattle.std.proofs.lemmas.List.{take_all}
 use Rattle.std.proofs.lemmas.List.Elements.{All-from_recursion}
 use Rattle.std.proofs.lemmas.Result.{on_ok_weaker}
 use Rattle.js_tree.specs.declared.node.Node.{Node as Given}
-use Rattle.js_tree.specs.declared.token.Token.{Token}
 use Rattle.js_tree.specs.Parts.{node_of, parts}
 use Rattle.js_tree.proofs.GatherLemmas.{gathered_through, parts_lower}
 use Rattle.js_tree.specs.Tokens.{IsInText}

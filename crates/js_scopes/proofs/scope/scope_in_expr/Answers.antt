@@ -1,6 +1,5 @@
-use Rattle.std.proofs.Common.{◌≡◌, Bool, List, [], refl, ap, sym, ◌∙◌, Some, None}
-use Rattle.js_tree.specs.declared.token.Token.{Token}
-use Rattle.js_tree.specs.declared.tree.Expr.TheOpen.{Expr-F, Pattern-F, Stmt-F}
+use Rattle.std.proofs.Common.{◌≡◌, refl, ap, sym, ◌∙◌, Some, None}
+use Rattle.js_tree.specs.declared.tree.Expr.TheOpen.{Expr-F}
 use Rattle.js_tree.specs.declared.tree.Function.{Function}
 use Rattle.js_tree.specs.declared.tree.Expr.{out-Expr}
 use Rattle.js_tree.specs.declared.tree.Expr.TheVariants.{outs-Fun}

@@ -1,10 +1,10 @@
-use Rattle.std.proofs.Common.{◌++◌, ◌∷◌, List, [], map, refl, ap, sym, ◌∙◌}
+use Rattle.std.proofs.Common.{◌∷◌, List, [], map}
 use Rattle.std.proofs.lemmas.Result.{on_ok_weaker}
-use Rattle.js_tree.specs.Line.{LineItem, AToken, ANode, given_marks, item_of, items, possible, tail_items}
-use Rattle.js_tree.specs.Parts.{AnExpr, ASlot, AStmt}
-use Rattle.js_tree.specs.Spelling.Rows.{arm_row, bracket_row, each_of, element_row, listed_row, maybe, template_row}
-use Rattle.js_tree.proofs.Adding.{put_onto, possible_onto}
-use Rattle.js_tree.proofs.OntoLemmas.{then_put, tail_items_onto, param_items_onto, template_items}
+use Rattle.js_tree.specs.Line.{LineItem, AToken, ANode, given_marks, item_of, items}
+use Rattle.js_tree.specs.Parts.{ASlot}
+use Rattle.js_tree.specs.Spelling.Rows.{element_row}
+use Rattle.js_tree.proofs.Adding.{possible_onto}
+use Rattle.js_tree.proofs.OntoLemmas.{then_put}
 use Rattle.js_tree.proofs.line_bracket.push_listed_slot.Goals as goal
 
 pub returns : goal.returns

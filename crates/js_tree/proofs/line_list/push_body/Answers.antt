@@ -1,7 +1,7 @@
 use Rattle.std.proofs.Common.{◌++◌, ◌∷◌, List, [], map, refl, ap, ◌∙◌}
 use Rattle.js_tree.specs.declared.tree.Stmt.{Stmt}
 use Rattle.js_tree.specs.Parts.{AStmt}
-use Rattle.js_tree.specs.Line.{LineItem, AToken, ANode, item_of}
+use Rattle.js_tree.specs.Line.{LineItem, ANode, item_of}
 use Rattle.js_tree.proofs.Adding.{put_more}
 use Rattle.js_tree.proofs.line_list.push_body.Goals as goal
 

@@ -1,5 +1,4 @@
 use Rattle.std.proofs.Common.{◌≡◌, ◌++◌, [], map, take, drop}
-use Rattle.js_tree.specs.Parts.{Node}
 use Rattle.js_tree.specs.Line.{item_of, tail_items}
 use Rattle.js_tree.proofs.line_list.push_tails.Given as goal
 

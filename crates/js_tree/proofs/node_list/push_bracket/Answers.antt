@@ -1,13 +1,12 @@
-use Rattle.std.proofs.Common.{◌++◌, ◌∷◌, List, [], map, refl, ap, sym, ◌∙◌}
+use Rattle.std.proofs.Common.{◌++◌, ◌∷◌, List, [], map, refl, ap, ◌∙◌}
 use Rattle.std.proofs.lemmas.Result.{on_ok_weaker}
 use Rattle.js_tree.specs.declared.lists.Listed.{Listed}
 use Rattle.js_tree.specs.declared.lists.Element.{Element}
 use Rattle.js_tree.specs.declared.tree.Expr.{Expr}
-use Rattle.js_tree.specs.Parts.{Node, AnExpr, ASlot, node_of, nodes, tails_behind}
-use Rattle.js_tree.specs.Spelling.Nodes.{unmarked}
-use Rattle.js_tree.specs.Spelling.Rows.{bracket_row, each_of, maybe, template_row}
+use Rattle.js_tree.specs.Parts.{Node, AnExpr, node_of}
+use Rattle.js_tree.specs.Spelling.Rows.{each_of, maybe}
 use Rattle.js_tree.proofs.Adding.{put_onto}
-use Rattle.js_tree.proofs.OntoLemmas.{then_put, tails_onto, params_onto, template_nodes}
+use Rattle.js_tree.proofs.OntoLemmas.{then_put}
 use Rattle.js_tree.proofs.node_list.push_bracket.Goals as goal
 
 pub returns : goal.returns

@@ -1,10 +1,9 @@
-use Rattle.std.proofs.Common.{◌++◌, ◌∷◌, List, [], map, refl, ap, sym, ◌∙◌}
+use Rattle.std.proofs.Common.{◌∷◌, List, [], map, ap}
 use Rattle.std.proofs.lemmas.Result.{on_ok_weaker}
-use Rattle.js_tree.specs.Parts.{Node, AnExpr, ASlot, node_of, nodes, tails_behind}
+use Rattle.js_tree.specs.Parts.{Node, AnExpr, node_of, nodes, tails_behind}
 use Rattle.js_tree.specs.Spelling.Nodes.{unmarked}
-use Rattle.js_tree.specs.Spelling.Rows.{bracket_row, each_of, maybe, template_row}
-use Rattle.js_tree.proofs.Adding.{put_onto}
-use Rattle.js_tree.proofs.OntoLemmas.{then_put, tails_onto, params_onto, template_nodes}
+use Rattle.js_tree.specs.Spelling.Rows.{bracket_row, maybe}
+use Rattle.js_tree.proofs.OntoLemmas.{then_put, tails_onto}
 use Rattle.js_tree.proofs.node_list.push_new.Goals as goal
 
 pub returns : goal.returns

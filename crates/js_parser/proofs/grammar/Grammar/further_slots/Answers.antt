@@ -1,4 +1,4 @@
-use Rattle.std.proofs.Common.{◌-◌, ℕ, max, sym, ap, ◌∙◌, subst, arith, List, []}
+use Rattle.std.proofs.Common.{◌-◌, max, sym, ap, ◌∙◌, subst, arith, List}
 use Rattle.js_tree.specs.Spelling.{slot}
 use Rattle.js_tree.specs.Spelling.Nodes.{ASSIGN}
 use Rattle.js_tree.specs.declared.lists.Further.{Further}

@@ -1,4 +1,4 @@
-use Rattle.std.proofs.Common.{◌+◌, ℕ, List, sym, ◌∙◌, arith}
+use Rattle.std.proofs.Common.{◌+◌, ℕ, sym, ◌∙◌, arith}
 use Rattle.js_tree.specs.declared.lists.Further.{Further}
 use Rattle.js_tree.specs.declared.tree.Expr.{Expr}
 use Rattle.js_parser.proofs.ExprLemmas.{value_of, value_at, list_low, rests}

@@ -1,4 +1,4 @@
-use Rattle.std.proofs.Common.{ℕ, refl, sym, ◌∙◌, arith, List}
+use Rattle.std.proofs.Common.{refl, sym, ◌∙◌, arith}
 use Rattle.js_tree.specs.Spelling.Nodes.{pieces}
 use Rattle.js_tree.specs.Spelling.Rows.{mark}
 use Rattle.js_tree.specs.declared.token_kind.TokenKind.TheVariants as kinds

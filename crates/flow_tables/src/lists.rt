@@ -1,78 +1,99 @@
-//! What is said of a module, as lines that tests compare.
+//! Lists of what is said of a module, as texts that tests compare.
 use flow_rules::{Constraints, Flow, ModuleNote, NoteKind, Require, Vertex};
 use js_scopes::{FunctionInfo, SiteInfo};
 use std::alloc::{AllocError, Global};
 
-/// A line for each list that isn't empty, with its items between commas: functions as START/PARAMS NAME,
-/// sites as OFFSET.PART hHOLDER aARGS, requires as OFFSET SPEC hHOLDER, notes as OFFSET KIND and flows as
-/// FROM -> TO.
+// A line for each list that isn't empty: its name, and its items.
 pub(crate) fn lines_of(alloc: Global, made: &Constraints) -> Result<String, AllocError> {
-    let mut out = String::new(alloc);
-    push_functions(&mut out, made.functions())?;
-    push_sites(&mut out, made.sites())?;
-    push_requires(&mut out, made.requires_())?;
-    push_notes(&mut out, made.notes())?;
-    push_flows(&mut out, made.flows())?;
+    let mut out = first_lines(alloc, made.functions(), made.sites())?;
+    out.push_str(other_lines(alloc, made)?.as_str())?;
+    push_line(&mut out, "flows", flows_text(alloc, made.flows())?.as_str())?;
     Ok(out)
 }
 
-/// The lines of these functions and sites alone.
+// The lines of these functions and sites.
 pub(crate) fn first_lines(
     alloc: Global,
     functions: &[FunctionInfo],
     sites: &[SiteInfo],
 ) -> Result<String, AllocError> {
     let mut out = String::new(alloc);
-    push_functions(&mut out, functions)?;
-    push_sites(&mut out, sites)?;
+    push_line(
+        &mut out,
+        "functions",
+        functions_text(alloc, functions)?.as_str(),
+    )?;
+    push_line(&mut out, "sites", sites_text(alloc, sites)?.as_str())?;
     Ok(out)
 }
 
-// Ends the line of a list, which an empty one doesn't have.
-fn end_line(out: &mut String, is_empty: bool) -> Result<(), AllocError> {
-    if is_empty {
-        return Ok(());
-    }
-    out.push('\n')
+// The lines of the requires and the notes.
+pub(crate) fn other_lines(alloc: Global, made: &Constraints) -> Result<String, AllocError> {
+    let mut out = String::new(alloc);
+    push_line(
+        &mut out,
+        "requires",
+        requires_text(alloc, made.requires_())?.as_str(),
+    )?;
+    push_line(&mut out, "notes", notes_text(alloc, made.notes())?.as_str())?;
+    Ok(out)
 }
 
-fn push_functions(out: &mut String, functions: &[FunctionInfo]) -> Result<(), AllocError> {
-    let mut before = "functions ";
+fn push_line(out: &mut String, name: &str, items: &str) -> Result<(), AllocError> {
+    if items.is_empty() {
+        return Ok(());
+    }
+    write!(out, "{name} {items}\n")
+}
+
+// Functions as START/PARAMS NAME.
+pub(crate) fn functions_text(
+    alloc: Global,
+    functions: &[FunctionInfo],
+) -> Result<String, AllocError> {
+    let mut out = String::new(alloc);
+    let mut before = "";
     for function in functions {
         let name = function.name.as_str();
         write!(out, "{before}{}/{} {name}", function.start, function.params)?;
         before = ", ";
     }
-    end_line(out, functions.is_empty())
+    Ok(out)
 }
 
-fn push_sites(out: &mut String, sites: &[SiteInfo]) -> Result<(), AllocError> {
-    let mut before = "sites ";
+// Sites as OFFSET.PART hHOLDER aARGS.
+pub(crate) fn sites_text(alloc: Global, sites: &[SiteInfo]) -> Result<String, AllocError> {
+    let mut out = String::new(alloc);
+    let mut before = "";
     for site in sites {
         write!(out, "{before}{}.{}", site.offset, site.part)?;
         write!(out, " h{} a{}", site.holder, site.args)?;
         before = ", ";
     }
-    end_line(out, sites.is_empty())
+    Ok(out)
 }
 
-fn push_requires(out: &mut String, requires_: &[Require]) -> Result<(), AllocError> {
-    let mut before = "requires ";
+// Requires as OFFSET SPEC hHOLDER.
+fn requires_text(alloc: Global, requires_: &[Require]) -> Result<String, AllocError> {
+    let mut out = String::new(alloc);
+    let mut before = "";
     for require in requires_ {
         let spec = require.spec.as_str();
         write!(out, "{before}{} {spec} h{}", require.offset, require.holder)?;
         before = ", ";
     }
-    end_line(out, requires_.is_empty())
+    Ok(out)
 }
 
-fn push_notes(out: &mut String, notes: &[ModuleNote]) -> Result<(), AllocError> {
-    let mut before = "notes ";
+// Notes as OFFSET KIND.
+fn notes_text(alloc: Global, notes: &[ModuleNote]) -> Result<String, AllocError> {
+    let mut out = String::new(alloc);
+    let mut before = "";
     for note in notes {
         write!(out, "{before}{} {}", note.offset, kind_name(&note.kind))?;
         before = ", ";
     }
-    end_line(out, notes.is_empty())
+    Ok(out)
 }
 
 fn kind_name(kind: &NoteKind) -> &str {
@@ -82,16 +103,18 @@ fn kind_name(kind: &NoteKind) -> &str {
     }
 }
 
-fn push_flows(out: &mut String, flows: &[Flow]) -> Result<(), AllocError> {
-    let mut before = "flows ";
+// Flows as FROM -> TO.
+pub(crate) fn flows_text(alloc: Global, flows: &[Flow]) -> Result<String, AllocError> {
+    let mut out = String::new(alloc);
+    let mut before = "";
     for flow in flows {
         out.push_str(before)?;
-        push_vertex(out, &flow.from)?;
+        push_vertex(&mut out, &flow.from)?;
         out.push_str(" -> ")?;
-        push_vertex(out, &flow.to)?;
+        push_vertex(&mut out, &flow.to)?;
         before = ", ";
     }
-    end_line(out, flows.is_empty())
+    Ok(out)
 }
 
 // The kind of a vertex and its fields.
