@@ -1,7 +1,7 @@
 var mail = require("./lib/mail");
 
-function main() {
-  mail.send();
+function main(name) {
+  console.log(mail.send(name));
 }
 
-main();
+main("Ada");

@@ -9,31 +9,32 @@ use std::sync::ledger::Blank;
 use std::test::Fail;
 use std::thread::Threads;
 
-const LOCK: &str =
+pub(crate) const LOCK: &str =
     "{\"lockfileVersion\":3,\"packages\":{\"\":{\"name\":\"app\",\"version\":\"1.0.0\"}}}";
 
-const LOCK_A: &str =
+pub(crate) const LOCK_A: &str =
     "{\"lockfileVersion\":3,\"packages\":{\"\":{\"name\":\"app\",\"version\":\"1.0.0\"},\"node_modules/a\":{\"version\":\"1.1.0\"}}}";
 
 const LOCK_AB: &str =
     "{\"lockfileVersion\":3,\"packages\":{\"node_modules/a\":{\"version\":\"1.0.0\"},\"node_modules/b\":{\"version\":\"2.0.0\"},\"\":{\"name\":\"app\",\"version\":\"1.0.0\"}}}";
 
-const NONE: &str = "{\"advisories\":[]}";
+pub(crate) const NONE: &str = "{\"advisories\":[]}";
 
-const SLOW: &str =
+pub(crate) const SLOW: &str =
     "{\"advisories\":[{\"id\":\"X-1\",\"package\":\"a\",\"range\":\"<1.2.0\",\"functions\":[{\"file\":\"index.js\",\"name\":\"slow\"}]}]}";
 
-const INDEX: &str = "var a = require(\"./node_modules/a\");\na.go();\n";
+pub(crate) const INDEX: &str = "var a = require(\"a\");\na.go();\n";
 
-const PACKAGE: &str = "function slow() { }\nexports.go = function () { slow(); };\n";
+pub(crate) const PACKAGE: &str =
+    "function slow(x) { return x; }\nexports.go = function (x) { return slow(x); };\n";
 
-const ALARM: &str =
-    "alarm X-1 a 1.1.0 node_modules/a/index.js:1:1 slow\n  index.js:2:5 -> node_modules/a/index.js:2:14 go\n  node_modules/a/index.js:2:32 -> node_modules/a/index.js:1:1 slow\nmodules 2, functions 4, reachable 4, edges 3, alarms 1, notes 0\n";
+pub(crate) const ALARM: &str =
+    "alarm X-1 a 1.1.0 node_modules/a/index.js:1:1 slow\n  index.js:2:5 -> node_modules/a/index.js:2:14 go\n  node_modules/a/index.js:2:40 -> node_modules/a/index.js:1:1 slow\nmodules 2, functions 4, reachable 4, edges 3, alarms 1, notes 0\n";
 
-const EMPTY: &str = "modules 1, functions 1, reachable 1, edges 0, alarms 0, notes 0\n";
+pub(crate) const EMPTY: &str = "modules 1, functions 1, reachable 1, edges 0, alarms 0, notes 0\n";
 
-// A folder with these files.
-fn bench_of(alloc: Global, files: &[(&str, &str)]) -> Result<Bench, Fail> {
+/// A folder with these files.
+pub(crate) fn bench_of(alloc: Global, files: &[(&str, &str)]) -> Result<Bench, Fail> {
     let mut bench = empty_bench(alloc);
     for (path, text) in files {
         let path = ModulePath::read(alloc, path)?.ok_or("path")?;
@@ -42,8 +43,8 @@ fn bench_of(alloc: Global, files: &[(&str, &str)]) -> Result<Bench, Fail> {
     Ok(bench)
 }
 
-// Runs the words of a line over these files, and compares the status, the output and the error output.
-fn check<R: Threads + Abort + Sync>(
+/// Runs the words of a line over these files, and compares the status, the output and the error output.
+pub(crate) fn check<R: Threads + Abort + Sync>(
     rt: &R,
     alloc: Global,
     files: &[(&str, &str)],
@@ -88,7 +89,7 @@ fn a_reachable_function_has_an_alarm_with_its_path(rt: HostRuntime) -> Result<()
         "",
     )?;
     let json =
-        "{\"alarms\":[{\"function\":{\"column\":1,\"line\":1,\"name\":\"slow\",\"path\":\"node_modules/a/index.js\"},\"id\":\"X-1\",\"package\":\"a\",\"path\":[{\"callee\":{\"column\":14,\"line\":2,\"name\":\"go\",\"path\":\"node_modules/a/index.js\"},\"column\":5,\"line\":2,\"path\":\"index.js\"},{\"callee\":{\"column\":1,\"line\":1,\"name\":\"slow\",\"path\":\"node_modules/a/index.js\"},\"column\":32,\"line\":2,\"path\":\"node_modules/a/index.js\"}],\"version\":\"1.1.0\"}],\"notes\":[],\"summary\":{\"alarms\":1,\"edges\":3,\"functions\":4,\"modules\":2,\"notes\":0,\"reachable\":4}}\n";
+        "{\"alarms\":[{\"function\":{\"column\":1,\"line\":1,\"name\":\"slow\",\"path\":\"node_modules/a/index.js\"},\"id\":\"X-1\",\"package\":\"a\",\"path\":[{\"callee\":{\"column\":14,\"line\":2,\"name\":\"go\",\"path\":\"node_modules/a/index.js\"},\"column\":5,\"line\":2,\"path\":\"index.js\"},{\"callee\":{\"column\":1,\"line\":1,\"name\":\"slow\",\"path\":\"node_modules/a/index.js\"},\"column\":40,\"line\":2,\"path\":\"node_modules/a/index.js\"}],\"version\":\"1.1.0\"}],\"notes\":[],\"summary\":{\"alarms\":1,\"edges\":3,\"functions\":4,\"modules\":2,\"notes\":0,\"reachable\":4}}\n";
     check(
         &rt,
         alloc,
@@ -129,16 +130,15 @@ fn one_text_in_two_packages_has_one_alarm(rt: HostRuntime) -> Result<(), Fail> {
     let alloc = rt.alloc();
     let both =
         "{\"advisories\":[{\"id\":\"X-1\",\"package\":\"a\",\"range\":\"<2.0.0\",\"functions\":[{\"file\":\"index.js\",\"name\":\"go\"}]},{\"id\":\"X-2\",\"package\":\"b\",\"range\":\"<2.0.0\",\"functions\":[{\"file\":\"index.js\",\"name\":\"go\"}]}]}";
-    let index =
-        "var a = require(\"./node_modules/a\"); var b = require(\"./node_modules/b\"); a.go(); b.go();\n";
+    let index = "require(\"a\").go(); require(\"b\").go();\n";
     let out =
-        "alarm X-1 a 1.0.0 node_modules/a/index.js:1:14 go\n  index.js:1:79 -> node_modules/a/index.js:1:14 go\nmodules 3, functions 5, reachable 5, edges 6, alarms 1, notes 0\n";
+        "alarm X-1 a 1.0.0 node_modules/a/index.js:1:14 go\n  index.js:1:16 -> node_modules/a/index.js:1:14 go\nmodules 3, functions 5, reachable 5, edges 6, alarms 1, notes 0\n";
     let files = [
         ("package-lock.json", LOCK_AB),
         ("adv.json", both),
         ("index.js", index),
-        ("node_modules/a/index.js", "exports.go = function () { };\n"),
-        ("node_modules/b/index.js", "exports.go = function () { };\n"),
+        ("node_modules/a/index.js", "exports.go = function () {};\n"),
+        ("node_modules/b/index.js", "exports.go = function () {};\n"),
     ];
     check(&rt, alloc, files.as_slice(), "audit adv.json", 1, out, "")
 }
@@ -197,6 +197,37 @@ fn notes_go_by_path_and_place(rt: HostRuntime) -> Result<(), Fail> {
 }
 
 #[test]
+fn requires_of_no_text_and_of_absent_files_have_notes(rt: HostRuntime) -> Result<(), Fail> {
+    let alloc = rt.alloc();
+    let index =
+        "var n = \"./a\"; require(n);\nrequire(\"./absent\");\nrequire(\"fs\");\nrequire(\"node:x\");\n";
+    let files = [
+        ("package-lock.json", LOCK),
+        ("adv.json", NONE),
+        ("index.js", index),
+    ];
+    let out =
+        "note index.js:1:23 dynamic require\nnote index.js:2:8 not found: ./absent\nmodules 1, functions 1, reachable 1, edges 0, alarms 0, notes 2\n";
+    check(&rt, alloc, files.as_slice(), "audit adv.json", 0, out, "")
+}
+
+#[test]
+fn modules_that_require_one_another_have_edges(rt: HostRuntime) -> Result<(), Fail> {
+    let alloc = rt.alloc();
+    let files = [
+        ("index.js", "require(\"./a\");\n"),
+        ("a.js", "exports.x = 1; require(\"./b\").y();\n"),
+        (
+            "b.js",
+            "var a = require(\"./a\"); require(\"./b\");\nexports.y = function () { return a; };\n",
+        ),
+    ];
+    let out =
+        "a.js:1:23 -> b.js:1:1 <module>\na.js:1:32 -> b.js:2:13 y\nb.js:1:16 -> a.js:1:1 <module>\nb.js:1:32 -> b.js:1:1 <module>\nindex.js:1:8 -> a.js:1:1 <module>\n";
+    check(&rt, alloc, files.as_slice(), "graph index.js", 0, out, "")
+}
+
+#[test]
 fn modules_outside_the_profile_are_refused_or_skipped(rt: HostRuntime) -> Result<(), Fail> {
     let alloc = rt.alloc();
     let files = [
@@ -204,7 +235,7 @@ fn modules_outside_the_profile_are_refused_or_skipped(rt: HostRuntime) -> Result
         ("adv.json", NONE),
         ("index.js", "require(\"./a\"); require(\"./b\");\n"),
         ("a.js", "with (x) y();\n"),
-        ("b.js", "\u{e9})"),
+        ("b.js", ")"),
     ];
     let out =
         "note a.js:1:1 skipped: not in the profile\nnote b.js:1:1 skipped: not in the profile\nmodules 3, functions 3, reachable 3, edges 2, alarms 0, notes 2\n";
@@ -236,194 +267,4 @@ fn modules_outside_the_profile_are_refused_or_skipped(rt: HostRuntime) -> Result
         "",
         "jam: a.js:1:1: with\n",
     )
-}
-
-#[test]
-fn the_other_files_are_refused_in_order(rt: HostRuntime) -> Result<(), Fail> {
-    let alloc = rt.alloc();
-    let second =
-        "{\"advisories\":[{\"id\":\"A\",\"package\":\"a\",\"range\":\"*\",\"functions\":[]},{\"id\":\"B\",\"package\":\"b\",\"range\":\"^1.0.0\",\"functions\":[]}]}";
-    for (lock, advisories, index, line, err) in [
-        (
-            "[",
-            NONE,
-            "",
-            "audit adv.json",
-            "jam: package-lock.json: not JSON\n",
-        ),
-        (
-            "{\"lockfileVersion\":3}",
-            NONE,
-            "",
-            "audit adv.json",
-            "jam: package-lock.json: wrong shape at packages\n",
-        ),
-        (
-            "{\"lockfileVersion\":1,\"dependencies\":{}}",
-            NONE,
-            "",
-            "audit adv.json",
-            "jam: package-lock.json: lockfileVersion 1\n",
-        ),
-        (
-            "3",
-            "[",
-            "",
-            "audit adv.json",
-            "jam: package-lock.json: wrong shape at \n",
-        ),
-        (LOCK, NONE, "", "audit none.json", "jam: no advisory file\n"),
-        (
-            LOCK,
-            NONE,
-            "",
-            "audit ../adv.json",
-            "jam: no advisory file\n",
-        ),
-        (
-            LOCK,
-            "[",
-            "",
-            "audit adv.json",
-            "jam: advisories: not JSON\n",
-        ),
-        (
-            LOCK,
-            "{}",
-            "",
-            "audit adv.json",
-            "jam: advisories: wrong shape\n",
-        ),
-        (
-            LOCK,
-            "{\"advisories\":[{}]}",
-            "",
-            "audit adv.json",
-            "jam: advisory 0: id\n",
-        ),
-        (
-            LOCK,
-            second,
-            ")",
-            "audit adv.json",
-            "jam: advisory 1: range at 0\n",
-        ),
-        (
-            LOCK,
-            NONE,
-            "",
-            "audit --entry lib adv.json",
-            "jam: no entry\n",
-        ),
-        (
-            LOCK,
-            NONE,
-            "",
-            "audit --entry package-lock.json adv.json",
-            "jam: no entry\n",
-        ),
-        (
-            LOCK,
-            NONE,
-            ")",
-            "audit adv.json",
-            "jam: index.js:1:1: not in the profile\n",
-        ),
-    ] {
-        let files = [
-            ("package-lock.json", lock),
-            ("adv.json", advisories),
-            ("index.js", index),
-        ];
-        check(&rt, alloc, files.as_slice(), line, 2, "", err)?;
-    }
-    let bare = [("adv.json", "["), ("index.js", "")];
-    check(
-        &rt,
-        alloc,
-        bare.as_slice(),
-        "audit adv.json",
-        2,
-        "",
-        "jam: no lockfile\n",
-    )
-}
-
-#[test]
-fn a_shrinkwrap_file_comes_first(rt: HostRuntime) -> Result<(), Fail> {
-    let alloc = rt.alloc();
-    let files = [
-        ("npm-shrinkwrap.json", LOCK_A),
-        ("package-lock.json", "["),
-        ("adv.json", SLOW),
-        ("index.js", INDEX),
-        ("node_modules/a/index.js", PACKAGE),
-    ];
-    check(&rt, alloc, files.as_slice(), "audit adv.json", 1, ALARM, "")?;
-    let wrong = [("npm-shrinkwrap.json", "["), ("package-lock.json", LOCK)];
-    check(
-        &rt,
-        alloc,
-        wrong.as_slice(),
-        "audit adv.json",
-        2,
-        "",
-        "jam: npm-shrinkwrap.json: not JSON\n",
-    )
-}
-
-#[test]
-fn each_call_of_the_folder_may_fail(rt: HostRuntime) -> Result<(), Fail> {
-    let alloc = rt.alloc();
-    let files = [
-        ("package-lock.json", LOCK_A),
-        ("adv.json", SLOW),
-        ("index.js", INDEX),
-        ("node_modules/a/index.js", PACKAGE),
-    ];
-    for call in 1..40 {
-        let mut bench = bench_of(alloc, files.as_slice())?;
-        bench.folder.fail_at(List::of(vec![in alloc; call]?));
-        let words = words_of(alloc, "audit adv.json")?;
-        let status = ran::<HostRuntime, Brand>(
-            &rt,
-            alloc,
-            &mut bench,
-            words.as_slice(),
-            Blank::new(1),
-        );
-        if status.number() == 3 {
-            compare(&rt, &bench, &status, 3, "", "jam: read failed\n");
-        } else {
-            compare(&rt, &bench, &status, 1, ALARM, "");
-        }
-    }
-    Ok(())
-}
-
-#[test]
-fn the_output_may_fail_after_each_byte(rt: HostRuntime) -> Result<(), Fail> {
-    let alloc = rt.alloc();
-    let files = [
-        ("package-lock.json", LOCK_A),
-        ("adv.json", SLOW),
-        ("index.js", INDEX),
-        ("node_modules/a/index.js", PACKAGE),
-    ];
-    for room in 0..ALARM.len() {
-        let mut bench = bench_of(alloc, files.as_slice())?;
-        bench.out.fail_after(room as u64);
-        let words = words_of(alloc, "audit adv.json")?;
-        let status = ran::<HostRuntime, Brand>(
-            &rt,
-            alloc,
-            &mut bench,
-            words.as_slice(),
-            Blank::new(1),
-        );
-        assert_eq!(rt; status.number(), 4);
-        assert_eq!(rt; bench.out.bytes(), &ALARM.as_bytes()[..room]);
-        assert_eq!(rt; bench.err.bytes(), b"jam: write failed\n".as_slice());
-    }
-    Ok(())
 }

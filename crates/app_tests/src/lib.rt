@@ -7,3 +7,5 @@ mod audit_tests;
 mod jam_app_tests;
 #[cfg(test)]
 mod loading_tests;
+#[cfg(test)]
+mod refusal_tests;

@@ -1,5 +1,5 @@
-var template = require("../node_modules/tiny-template");
+var template = require("tiny-template");
 
-exports.send = function () {
-  template.render();
+exports.send = function (name) {
+  return template.render("Hello, NAME!", name);
 };
