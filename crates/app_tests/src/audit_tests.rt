@@ -268,3 +268,51 @@ fn modules_outside_the_profile_are_refused_or_skipped(rt: HostRuntime) -> Result
         "jam: a.js:1:1: with\n",
     )
 }
+
+const SERVER: &str =
+    "\"use strict\";\nvar http = require(\"http\");\nvar query = require(\"@acme/query\");\nvar Store = require(\"store\");\nvar fast = require(\"fast-path\");\nvar server = http.createServer(function (req, res) {\n  var q = query.parse(req.url);\n  var s = new Store(q);\n  s.list().forEach(function (item) { return res.write(item.label); });\n  res.end(s.size);\n});\nserver.listen(8080);\n";
+
+const QUERY: &str =
+    "Object.defineProperty(exports, \"__esModule\", true);\nexports.parse = parse;\nvar deep_1 = require(\"deep\");\nfunction parse(text) { return deep_1.merge(null, text); }\n";
+
+const DEEP: &str =
+    "(function (root, factory) {\n  module.exports = factory();\n}(this, function () {\n  function copy(x) { return x; }\n  return copy;\n}));\n";
+
+const STORE: &str =
+    "var copy = require(\"deep\");\nvar info = require(\"./info.json\");\nfunction Store(q) { this.q = copy(q); }\nStore.prototype.list = function () { return this; };\nStore.prototype.size = function () { return count(this); };\nfunction count(s) { return info.max; }\nmodule.exports = Store;\n";
+
+// Packages with conditions of exports, a `main` without its ending, and one name in two versions.
+#[test]
+fn each_version_of_a_package_has_alarms_of_its_own(rt: HostRuntime) -> Result<(), Fail> {
+    let alloc = rt.alloc();
+    let lock =
+        "{\"lockfileVersion\":3,\"packages\":{\"\":{\"name\":\"shop\",\"version\":\"1.0.0\"},\"node_modules/@acme/query\":{\"version\":\"1.0.0\"},\"node_modules/@acme/query/node_modules/deep\":{\"version\":\"2.0.1\"},\"node_modules/deep\":{\"version\":\"1.0.5\"},\"node_modules/store\":{\"version\":\"1.4.0\"}}}";
+    let advisories =
+        "{\"advisories\":[{\"id\":\"A-1\",\"package\":\"deep\",\"range\":\"<2.0.0\",\"functions\":[{\"file\":\"lib/deep.js\",\"name\":\"copy\"}]},{\"id\":\"A-2\",\"package\":\"deep\",\"range\":\">=2.0.0 <2.0.2\",\"functions\":[{\"file\":\"index.js\",\"name\":\"merge\"},{\"file\":\"index.js\",\"name\":\"absent\"},{\"file\":\"index.js\",\"name\":\"<module>\"}]},{\"id\":\"A-3\",\"package\":\"store\",\"range\":\"<1.0.0\",\"functions\":[{\"file\":\"*\",\"name\":\"*\"}]}]}";
+    let files = [
+        ("package-lock.json", lock),
+        ("adv.json", advisories),
+        (
+            "package.json",
+            "{\"name\":\"shop\",\"main\":\"lib/server.js\"}",
+        ),
+        ("lib/server.js", SERVER),
+        (
+            "node_modules/@acme/query/package.json",
+            "{\"name\":\"@acme/query\",\"exports\":{\".\":{\"require\":\"./dist/q.js\",\"default\":\"./q.mjs\"}}}",
+        ),
+        ("node_modules/@acme/query/dist/q.js", QUERY),
+        (
+            "node_modules/@acme/query/node_modules/deep/index.js",
+            "exports.merge = function merge(a, b) { return b; };\n",
+        ),
+        ("node_modules/deep/package.json", "{\"main\":\"lib/deep\"}"),
+        ("node_modules/deep/lib/deep.js", DEEP),
+        ("node_modules/store/package.json", "{\"name\":\"store\"}"),
+        ("node_modules/store/info.json", "{\"max\":3}"),
+        ("node_modules/store/index.js", STORE),
+    ];
+    let out =
+        "alarm A-1 deep 1.0.5 node_modules/deep/lib/deep.js:4:3 copy\n  lib/server.js:6:31 -> lib/server.js:6:32 <anonymous>\n  lib/server.js:8:11 -> node_modules/store/index.js:3:1 Store\n  node_modules/store/index.js:3:34 -> node_modules/deep/lib/deep.js:4:3 copy\nalarm A-2 deep 2.0.1 node_modules/@acme/query/node_modules/deep/index.js:1:1 <module>\n  lib/server.js:3:20 -> node_modules/@acme/query/dist/q.js:1:1 <module>\n  node_modules/@acme/query/dist/q.js:3:21 -> node_modules/@acme/query/node_modules/deep/index.js:1:1 <module>\nalarm A-2 deep 2.0.1 node_modules/@acme/query/node_modules/deep/index.js:1:17 merge\n  lib/server.js:6:31 -> lib/server.js:6:32 <anonymous>\n  lib/server.js:7:22 -> node_modules/@acme/query/dist/q.js:4:1 parse\n  node_modules/@acme/query/dist/q.js:4:43 -> node_modules/@acme/query/node_modules/deep/index.js:1:17 merge\nnote lib/server.js:5:19 not found: fast-path\nmodules 5, functions 16, reachable 14, edges 14, alarms 3, notes 1\n";
+    check(&rt, alloc, files.as_slice(), "audit adv.json", 1, out, "")
+}
