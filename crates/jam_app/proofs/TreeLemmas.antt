@@ -1,5 +1,9 @@
 -- The tree that is worked with.
-use Rattle.std.proofs.Common.{◌≡◌, ◌↔◌, ◌<◌, ◌≤◌, ℕ, Bool, true, false, List, [], length, refl, sym, subst, ◌∙◌, arith, true≢false}
+use Rattle.std.proofs.Common.{◌≡◌, ◌↔◌, ℕ, Bool, true, false, List, [], refl, ap, sym, subst, ◌∙◌, arith, true≢false}
+use Rattle.std.specs.List.{fold}
+use Rattle.std.proofs.lemmas.Str.{IsUtf8-nil, chars-nil}
+use Rattle.js_tree.specs.Lexical.{begin_trivia}
+use Rattle.js_tree.specs.Lexical.Trivia as trivia
 use Rattle.js_tree.specs.Lexing.{start_of}
 use Rattle.js_tree.specs.Spells.{Spells, SpellsSome}
 use Rattle.js_tree.specs.declared.tree.Tree.{Tree}
@@ -34,7 +38,11 @@ not_bad skip text tree skipped (none e s b empty) unskipped bad = true≢false (
 
 -- the empty text has the empty tree
 empty_spells : Spells [] empty_tree
-empty_spells = record { fits = omega arith; well = record { fit = tt; depth = omega arith }; lexes = (start_of [], refl, λ i lt. absurd (omega (arith, lt))) }
+empty_spells = record {
+  fits = omega arith;
+  well = record { fit = tt; depth = omega arith };
+  lexes = (start_of [], refl, record { utf8 = IsUtf8-nil; ends = ap (λ cs. trivia.may_end (fold trivia.next (begin_trivia 0) cs)) chars-nil });
+}
 
 -- it spells some text
 pub spells_some : (skip : Bool) (text : List ℕ) (tree : Tree) (skipped : Bool) → IsTheTree skip text tree skipped → SpellsSome tree
