@@ -10,9 +10,11 @@ loop-above-init c = (search rules, above_path c.as_slice-entries.result.now c.as
 pub loop-above-preserved : goal.loop-above-preserved
 loop-above-preserved c =
     let found = c.in-Some.ensures.cases in
-    let within : found.0 ≤ length c.loop-above.folder.now = omega (arith, found.5, found.7) in
-    (search rules, above_next c.as_slice-entries.result.now c.as_str-path.result.now c.loop-above.folder.now c.in-Some.above.now found.0 c.loop-above.invariant.1 within found.3 found.6 found.2.0
-    (subst (OwnsFrom c.as_slice-entries.result.now c.in-Some.above.now c.as_str-path.result.now) c.in_default-owner_at.is c.owner_at.ensures))
+    let within : found.0 ≤ length c.loop-above.folder.now = omega (arith, found.5, found.7) in (
+      search rules,
+      above_next c.as_slice-entries.result.now c.as_str-path.result.now c.loop-above.folder.now c.in-Some.above.now found.0 c.loop-above.invariant.1 within found.3 found.6 found.2.0
+          (subst (OwnsFrom c.as_slice-entries.result.now c.in-Some.above.now c.as_str-path.result.now) c.in_default-owner_at.is c.owner_at.ensures),
+    )
 
 pub returns-in-Some-owner_at : goal.returns-in-Some-owner_at
 returns-in-Some-owner_at c =
