@@ -1,0 +1,108 @@
+//! Arrays and objects: the flows, functions, sites, requires and notes of texts with them.
+use crate::lists::{flows_text, functions_text, other_lines, sites_text};
+use crate::texts::{constraints_of, tree_of};
+use js_scopes::{functions, sites};
+use std::process::Abort;
+use std::test::Fail;
+
+#[test]
+fn items_and_properties_flow_to_their_vertices(rt: HostRuntime) -> Result<(), Fail> {
+    let alloc = rt.alloc();
+    for (text, want) in [
+        ("a = [b, c];", "global:b -> elem, global:c -> elem"),
+        ("[a, , ...b];", "global:a -> elem"),
+        ("[a.b, 1];", "prop:b -> elem"),
+        ("[...a];", ""),
+        ("[];", ""),
+        ("a = {b: c, d};", "global:c -> prop:b, global:d -> prop:d"),
+        (
+            "a = {\"b\": c, 1: d, [e]: f, [\"g\"]: h};",
+            "global:c -> prop:b, global:d -> elem, global:f -> elem, global:h -> prop:g",
+        ),
+        ("a = {...b, \"\\8\": c};", "global:c -> elem"),
+        ("a = {if: b, __proto__: c};", "global:b -> prop:if, global:c -> prop:__proto__"),
+        ("a = {};", ""),
+        ("f({a: b});", "global:b -> prop:a, global:f -> callee:1:0"),
+        (
+            "[a || b, c || d];",
+            "global:a -> exp:0, global:b -> exp:0, global:c -> exp:1, global:d -> exp:1, \
+             exp:0 -> elem, exp:1 -> elem",
+        ),
+        (
+            "({[a || b]: c || d});",
+            "global:a -> exp:0, global:b -> exp:0, global:c -> exp:1, global:d -> exp:1, \
+             exp:1 -> elem",
+        ),
+        ("a = [require(\"./b\")];", "req:12 -> elem"),
+        ("a = {exports};", "exports -> prop:exports"),
+    ] {
+        let line = flows_text(alloc, constraints_of(alloc, text)?.flows())?;
+        assert!(rt; line.as_str() == want, "{text}: {}", line.as_str());
+    }
+    Ok(())
+}
+
+#[test]
+fn functions_take_the_names_of_their_keys(rt: HostRuntime) -> Result<(), Fail> {
+    let alloc = rt.alloc();
+    for (text, want) in [
+        ("a = {b: function () { }};", "0/0 <module>, 8/0 b"),
+        ("a = {b: function c() { }};", "0/0 <module>, 8/0 c"),
+        ("a = {\"b\": () => 1};", "0/0 <module>, 10/0 b"),
+        ("a = {1.50: () => 1};", "0/0 <module>, 11/0 1.50"),
+        ("a = {if: () => 1};", "0/0 <module>, 9/0 if"),
+        ("a = {[b]: () => 1};", "0/0 <module>, 10/0 <anonymous>"),
+        ("a = {[\"b\"]: () => 1};", "0/0 <module>, 12/0 <anonymous>"),
+        ("a = {\"\\8\": () => 1};", "0/0 <module>, 11/0 <anonymous>"),
+        ("a = {b: (() => 1)};", "0/0 <module>, 9/0 <anonymous>"),
+        ("a = [() => 1];", "0/0 <module>, 5/0 <anonymous>"),
+        ("a = {...() => 1};", "0/0 <module>, 8/0 <anonymous>"),
+        ("a = {[() => 1]: b};", "0/0 <module>, 6/0 <anonymous>"),
+    ] {
+        let tree = tree_of(alloc, text)?;
+        let line = functions_text(alloc, functions(alloc, &tree)?.as_slice())?;
+        assert!(rt; line.as_str() == want, "{text}: {}", line.as_str());
+    }
+    Ok(())
+}
+
+#[test]
+fn sites_stand_in_items_and_keys(rt: HostRuntime) -> Result<(), Fail> {
+    let alloc = rt.alloc();
+    for (text, want) in [
+        ("[f(), g()];", "2.0 h0 a0, 7.0 h0 a0"),
+        ("({a: f(), [g()]: 1});", "6.0 h0 a0, 12.0 h0 a0"),
+        ("a.push([f(...b)]);", "6.0 h0 a1, 9.0 h0 a0"),
+        ("[...f()];", "5.0 h0 a0"),
+    ] {
+        let tree = tree_of(alloc, text)?;
+        let line = sites_text(alloc, sites(alloc, &tree)?.as_slice())?;
+        assert!(rt; line.as_str() == want, "{text}: {}", line.as_str());
+    }
+    Ok(())
+}
+
+#[test]
+fn requires_stand_in_items_and_patterns(rt: HostRuntime) -> Result<(), Fail> {
+    let alloc = rt.alloc();
+    for (text, want) in [
+        ("[require(\"./b\")];", "requires 8 ./b h0\n"),
+        ("var {a} = require(\"./b\");", "requires 17 ./b h0\n"),
+        ("() => require(\"./b\");", "requires 13 ./b h1\n"),
+        ("[require];", "notes 1 value\n"),
+        ("({require});", "notes 2 value\n"),
+        ("({a: require});", "notes 5 value\n"),
+        ("({[require]: 1});", "notes 3 value\n"),
+        ("({require: 1});", ""),
+        ("[require] = a;", "notes 1 value\n"),
+        ("({require} = a);", "notes 2 value\n"),
+        ("({a: require} = a);", "notes 5 value\n"),
+        ("var {require} = a;", ""),
+        ("(require) => 1;", ""),
+        ("(a = require) => 1;", "notes 5 value\n"),
+    ] {
+        let line = other_lines(alloc, &constraints_of(alloc, text)?)?;
+        assert!(rt; line.as_str() == want, "{text}: {}", line.as_str());
+    }
+    Ok(())
+}
