@@ -38,8 +38,8 @@ known a (suc n) t v (along u d why) = known a n t u d
 
 -- an item of a list with places stands at its place
 in_enumerated : {X : Type 0} (xs : List X) (n k : ℕ) (x : X) → Contains (enumerate_from n xs) (k, x) → (n ≤ k) × ((j : ℕ) → k ≡ n + j → slice_get xs j ≡ Some x)
-in_enumerated [] n k x h = absurd (none (k, x) h)
-in_enumerated (y ∷ xs) n k x h = elim (cons_cases (n, y) (enumerate_from (suc n) xs) (k, x) h) [
+in_enumerated {X = X} [] n k x h = absurd (none (k, x) h)
+in_enumerated {X = X} (y ∷ xs) n k x h = elim (cons_cases (n, y) (enumerate_from (suc n) xs) (k, x) h) [
   | inl is ↦ (
       let number : n ≡ k = ap (λ (p : ℕ × X). p.0) is in
       let item : y ≡ x = ap (λ (p : ℕ × X). p.1) is in

@@ -1,6 +1,6 @@
 -- Why a request is refused.
 use Rattle.std.specs.Prelude.{◌≡◌, ℕ, ◌+◌, ◌<◌, ◌≤◌, List, [], ◌∷◌, ◌++◌, length, drop, Some, None, false, nat_lt, if◌then◌else◌}
-use Rattle.js_tree.specs.Lexing.{start_of}
+use Rattle.js_tree.specs.Lexing.{start_of as front_of}
 use Rattle.js_tree.specs.Spells.{limit}
 use Rattle.js_tokens.specs.Pieces.{IsStop}
 use Rattle.js_parser.specs.Answers.{Begins}
@@ -23,7 +23,7 @@ use Rattle.jam_app.specs.declared.answers.refusal.Refusal.TheVariants as refusal
 -- where a text within the limit that no tree spells is refused: at the start of a token, at a character that begins none, or
 -- at its end
 abbrev pub IsRefusedAt : List ℕ → ℕ → Type 0
-IsRefusedAt text at = IsStop (start_of text) at
+IsRefusedAt text at = IsStop (front_of text) at
 
 -- where such a text is refused for a construct: the next token there is the construct's word
 pub record IsConstructAt (text : List ℕ) (at : ℕ) (what : Construct) : Type 0 where
