@@ -9,6 +9,9 @@ use std::sync::ledger::{Blank, Ledger};
 use std::test::Fail;
 use std::thread::Threads;
 
+const HELP: &str =
+    "Tells which functions that advisories name an application can call. Run it in the application folder.\n\nUsage: jam <COMMAND>\n\nCommands:\n  audit  Report which functions that the advisories in a file name the application can call\n  graph  Print the calls that the application of an entry file can make\n\nReport which functions that the advisories in a file name the application can call\n\nUsage: jam audit [OPTIONS] <ADVISORIES>\n\nArguments:\n  <ADVISORIES>  The file of advisories, by its path from the application folder\n\nOptions:\n      --entry <PATH>     The file that the application begins with, as `require` would find it\n      --format <FORMAT>  How the report is written: text or json\n      --skip-refused     Pass over modules outside the profile, with a note, in place of refusing them\n\nExample: jam audit --format json advisories.json\n\nPrint the calls that the application of an entry file can make\n\nUsage: jam graph [OPTIONS] <FILE>\n\nArguments:\n  <FILE>  The file that the application begins with, as `require` would find it\n\nOptions:\n      --skip-refused  Pass over modules outside the profile, with a note, in place of refusing them\n\nExample: jam graph index.js\n";
+
 // What a run is over, and what it left.
 #[derive(Drop)]
 pub(crate) struct Bench {
@@ -344,14 +347,35 @@ fn an_entry_is_a_file_that_can_be_code(rt: HostRuntime) -> Result<(), Fail> {
 fn words_are_canonical_or_a_usage(rt: HostRuntime) -> Result<(), Fail> {
     let alloc = rt.alloc();
     let refused = "jam: a\\u005cb.js:1:1: not in the profile\n";
+    let no_lock = "jam: no lockfile\n";
     for (line, number, err) in [
         ("graph a\\b.js", 2, refused),
-        ("graph", 6, ""),
-        ("graph -x", 6, ""),
-        ("graph ", 6, ""),
-        ("audit index.js", 6, ""),
-        ("graph index.js more", 6, ""),
-        ("--help", 6, ""),
+        ("graph --skip-refused none.js", 2, "jam: no entry\n"),
+        ("audit a", 2, no_lock),
+        (
+            "audit a --entry=-x --format=json --skip-refused",
+            2,
+            no_lock,
+        ),
+        ("audit --format text --entry b a", 2, no_lock),
+        ("graph", 6, HELP),
+        ("graph -x", 6, HELP),
+        ("graph ", 6, HELP),
+        ("graph index.js more", 6, HELP),
+        ("graph --entry a b", 6, HELP),
+        ("graph --skip-refused --skip-refused b", 6, HELP),
+        ("graph --skip-refused=yes b", 6, HELP),
+        ("audit", 6, HELP),
+        ("audit a b", 6, HELP),
+        ("audit a --entry", 6, HELP),
+        ("audit a --entry=", 6, HELP),
+        ("audit a --entry -b", 6, HELP),
+        ("audit a --entry b --entry=c", 6, HELP),
+        ("audit a --format xml", 6, HELP),
+        ("audit a --format=json --format json", 6, HELP),
+        ("audit a --formats json", 6, HELP),
+        ("summary a", 6, HELP),
+        ("--help", 6, HELP),
     ] {
         let mut bench = set_up(alloc, "a\\b.js", b"?", 0, 0)?;
         let words = words_of(alloc, line)?;

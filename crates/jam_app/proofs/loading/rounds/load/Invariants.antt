@@ -1,12 +1,17 @@
-use Rattle.std.proofs.Common.{◌≡◌, ◌≤◌, ◌-◌}
-use Rattle.std.specs.Option.{IfSome}
-use Rattle.jam_app.specs.BetweenRounds.{HoldsAnalysed, Stands}
+use Rattle.std.proofs.Common.{◌≡◌, ◌⊎◌, ◌≤◌, ◌-◌}
+use Rattle.std.specs.BTreeMap.{btree_map_len}
+use Rattle.std.specs.Prelude.{Contains, IsSome}
+use Rattle.std.specs.Option.{IfSome, option_map}
+use Rattle.jam_app.specs.Entries.{begun}
+use Rattle.jam_app.specs.BetweenRounds.{HoldsAnalysed, Stands, found_at}
 use Rattle.jam_app.proofs.loading.rounds.load.Given as goal
 
 abbrev pub invariant-loop-alloc : goal.invariant-loop-alloc
 invariant-loop-alloc g l = record {
-  stands : IfSome (g.F.Folder.files l.fn.folder) (λ m. Stands l.operand m l.progress l.round.items);
+  stands : IfSome (g.F.Folder.files l.fn.folder) (λ m. Stands (begun (option_map (λ t. t.now) l.fn.entry) l.skip) m l.progress l.round.items);
   held : HoldsAnalysed l.progress.modules;
+  few : btree_map_len l.progress.modules ≤ l.progress.size.modules;
+  there : IsSome (found_at l.progress.modules l.entry) ⊎ Contains l.round.items l.entry;
   modules : l.progress.size.modules ≤ 16384;
   bytes : l.progress.size.bytes ≤ 67108864;
   same : g.F.Folder.files l.folder ≡ g.F.Folder.files l.fn.folder;
