@@ -9,3 +9,5 @@ mod jam_app_tests;
 mod loading_tests;
 #[cfg(test)]
 mod refusal_tests;
+#[cfg(test)]
+mod rows;

@@ -54,114 +54,29 @@ fn a_construct_is_refused_by_its_name_or_skipped(rt: HostRuntime) -> Result<(), 
 }
 
 #[test]
-fn the_other_files_are_refused_in_order(rt: HostRuntime) -> Result<(), Fail> {
+fn a_lockfile_is_refused_for_what_is_wrong_with_it(rt: HostRuntime) -> Result<(), Fail> {
     let alloc = rt.alloc();
-    let second =
-        "{\"advisories\":[{\"id\":\"A\",\"package\":\"a\",\"range\":\"*\",\"functions\":[]},{\"id\":\"B\",\"package\":\"b\",\"range\":\"^1.0.0\",\"functions\":[]}]}";
-    for (lock, advisories, index, line, err) in [
-        (
-            "[",
-            NONE,
-            "",
-            "audit adv.json",
-            "jam: package-lock.json: not JSON\n",
-        ),
+    for (lock, advisories, err) in [
+        ("[", NONE, "jam: package-lock.json: not JSON\n"),
         (
             "{\"lockfileVersion\":3}",
             NONE,
-            "",
-            "audit adv.json",
             "jam: package-lock.json: wrong shape at packages\n",
         ),
         (
             "{\"lockfileVersion\":1,\"dependencies\":{}}",
             NONE,
-            "",
-            "audit adv.json",
             "jam: package-lock.json: lockfileVersion 1\n",
         ),
-        (
-            "3",
-            "[",
-            "",
-            "audit adv.json",
-            "jam: package-lock.json: wrong shape at \n",
-        ),
-        (LOCK, NONE, "", "audit none.json", "jam: no advisory file\n"),
-        (
-            LOCK,
-            NONE,
-            "",
-            "audit ../adv.json",
-            "jam: no advisory file\n",
-        ),
-        (
-            LOCK,
-            "[",
-            "",
-            "audit adv.json",
-            "jam: advisories: not JSON\n",
-        ),
-        (
-            LOCK,
-            "{}",
-            "",
-            "audit adv.json",
-            "jam: advisories: wrong shape\n",
-        ),
-        (
-            LOCK,
-            "{\"advisories\":[{}]}",
-            "",
-            "audit adv.json",
-            "jam: advisory 0: id\n",
-        ),
-        (
-            LOCK,
-            second,
-            ")",
-            "audit adv.json",
-            "jam: advisory 1: range at 0\n",
-        ),
-        (
-            LOCK,
-            NONE,
-            "",
-            "audit --entry lib adv.json",
-            "jam: no entry\n",
-        ),
-        (
-            LOCK,
-            NONE,
-            "",
-            "audit --entry package-lock.json adv.json",
-            "jam: no entry\n",
-        ),
-        (
-            LOCK,
-            NONE,
-            ")",
-            "audit adv.json",
-            "jam: index.js:1:1: not in the profile\n",
-        ),
+        ("3", "[", "jam: package-lock.json: wrong shape at \n"),
     ] {
         let files = [
             ("package-lock.json", lock),
             ("adv.json", advisories),
-            ("index.js", index),
+            ("index.js", ""),
         ];
-        check(&rt, alloc, files.as_slice(), line, 2, "", err)?;
+        check(&rt, alloc, files.as_slice(), "audit adv.json", 2, "", err)?;
     }
-    let no_entry = [("package-lock.json", LOCK), ("adv.json", NONE)];
-    check(
-        &rt,
-        alloc,
-        no_entry.as_slice(),
-        "audit adv.json",
-        2,
-        "",
-        "jam: no entry\n",
-    )?;
     let bare = [("adv.json", "["), ("index.js", "")];
     check(
         &rt,
@@ -172,6 +87,56 @@ fn the_other_files_are_refused_in_order(rt: HostRuntime) -> Result<(), Fail> {
         "",
         "jam: no lockfile\n",
     )
+}
+
+#[test]
+fn advisories_are_refused_for_what_is_wrong_with_them(rt: HostRuntime) -> Result<(), Fail> {
+    let alloc = rt.alloc();
+    let second =
+        "{\"advisories\":[{\"id\":\"A\",\"package\":\"a\",\"range\":\"*\",\"functions\":[]},{\"id\":\"B\",\"package\":\"b\",\"range\":\"^1.0.0\",\"functions\":[]}]}";
+    for (advisories, line, err) in [
+        (NONE, "audit none.json", "jam: no advisory file\n"),
+        (NONE, "audit ../adv.json", "jam: no advisory file\n"),
+        ("[", "audit adv.json", "jam: advisories: not JSON\n"),
+        ("{}", "audit adv.json", "jam: advisories: wrong shape\n"),
+        (
+            "{\"advisories\":[{}]}",
+            "audit adv.json",
+            "jam: advisory 0: id\n",
+        ),
+        (second, "audit adv.json", "jam: advisory 1: range at 0\n"),
+    ] {
+        let files = [
+            ("package-lock.json", LOCK),
+            ("adv.json", advisories),
+            ("index.js", ")"),
+        ];
+        check(&rt, alloc, files.as_slice(), line, 2, "", err)?;
+    }
+    Ok(())
+}
+
+#[test]
+fn an_entry_is_refused_after_the_other_files(rt: HostRuntime) -> Result<(), Fail> {
+    let alloc = rt.alloc();
+    for (path, line, err) in [
+        ("index.js", "audit --entry lib adv.json", "jam: no entry\n"),
+        (
+            "index.js",
+            "audit --entry package-lock.json adv.json",
+            "jam: no entry\n",
+        ),
+        ("other.js", "audit adv.json", "jam: no entry\n"),
+        (
+            "index.js",
+            "audit adv.json",
+            "jam: index.js:1:1: not in the profile\n",
+        ),
+    ] {
+        let files = [("package-lock.json", LOCK), ("adv.json", NONE), (path, ")")];
+        check(&rt, alloc, files.as_slice(), line, 2, "", err)?;
+    }
+    Ok(())
 }
 
 #[test]
