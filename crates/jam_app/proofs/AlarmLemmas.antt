@@ -134,7 +134,7 @@ module _ (skip : Bool) (files : Files) (loaded : List Loaded) (kept : All (IsKep
         shown_as x a.advisory a.entry a.version a.path a.advisory_at a.entry_at a.version_is (path.1 ∙ ap Some same) ∙ sym a.shown_is,
       )
 
-  pair : Found → Found × Alarm
+  abbrev pair : Found → Found × Alarm
   pair x = (x, shown x)
 
   firsts : (found : List Found) → map (λ (a : Found × Alarm). a.0) (map pair found) ≡ found

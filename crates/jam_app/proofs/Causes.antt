@@ -31,8 +31,8 @@ both_told None p q f = tt
 both_told (Some m) p q f = f m p q
 
 -- and from three, where calls left the files as they were
-pub three_told : {P Q R : Files → Type 0} (first second third : Option Files) → second ≡ first → third ≡ second → IfSome first P → IfSome second Q → IfSome third R → IfSome first (λ m. P m × Q m × R m)
-three_told {P} {Q} {R} first second third same later p q r =
+pub three_told : (P Q R : Files → Type 0) (first second third : Option Files) → second ≡ first → third ≡ second → IfSome first P → IfSome second Q → IfSome third R → IfSome first (λ m. P m × Q m × R m)
+three_told P Q R first second third same later p q r =
     let q_first : IfSome first Q = subst (λ (fs : Option Files). IfSome fs Q) same q in
     let r_first : IfSome first R = subst (λ (fs : Option Files). IfSome fs R) (later ∙ same) r in
     by first p q_first r_first

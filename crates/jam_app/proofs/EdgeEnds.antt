@@ -20,7 +20,7 @@ use Rattle.composer.specs.declared.system.System.{System}
 use Rattle.composer.specs.Application.{callable_of, of_each, system_of}
 use Rattle.composer.specs.Edges.{IsEdge, IsEdgeList}
 use Rattle.composer.specs.Edges.IsEdge.{call, callback, require}
-use Rattle.composer.specs.Parts.{AreLinks}
+use Rattle.composer.specs.Parts.{AreLinks, IsNamed}
 use Rattle.composer.specs.Solution.{Derives, InSolution, OneStepOn}
 use Rattle.composer.specs.Solution.IsBase.{literal, native}
 use Rattle.composer.specs.Solution.OneStepOn.{along, base, before}
@@ -39,14 +39,14 @@ known a (suc n) t v (along u d why) = known a n t u d
 -- an item of a list with places stands at its place
 in_enumerated : {X : Type 0} (xs : List X) (n k : ℕ) (x : X) → Contains (enumerate_from n xs) (k, x) → (n ≤ k) × ((j : ℕ) → k ≡ n + j → slice_get xs j ≡ Some x)
 in_enumerated {X = X} [] n k x h = absurd (none (k, x) h)
-in_enumerated {X = X} (y ∷ xs) n k x h = elim (cons_cases (n, y) (enumerate_from (suc n) xs) (k, x) h) [
+in_enumerated {X = X} (y ∷ xs) n k x h = elim (cons_cases (n, y) (enumerate_from (n + 1) xs) (k, x) h) [
   | inl is ↦ (
       let number : n ≡ k = ap (λ (p : ℕ × X). p.0) is in
       let item : y ≡ x = ap (λ (p : ℕ × X). p.1) is in
       (omega (arith, number), λ j e. at_first j (omega (arith, number, e)) item)
       )
   | inr later ↦ (
-      let more = in_enumerated xs (suc n) k x later in
+      let more = in_enumerated xs (n + 1) k x later in
       (omega (arith, more.0), λ j e. at_later j e more)
       )
 ]
@@ -55,7 +55,7 @@ in_enumerated {X = X} (y ∷ xs) n k x h = elim (cons_cases (n, y) (enumerate_fr
     at_first zero e item = ap Some item
     at_first (suc j) e item = absurd (omega (arith, e))
 
-    at_later : (j : ℕ) → k ≡ n + j → (suc n ≤ k) × ((i : ℕ) → k ≡ suc n + i → slice_get xs i ≡ Some x) → slice_get (y ∷ xs) j ≡ Some x
+    at_later : (j : ℕ) → k ≡ n + j → (n + 1 ≤ k) × ((i : ℕ) → k ≡ n + 1 + i → slice_get xs i ≡ Some x) → slice_get (y ∷ xs) j ≡ Some x
     at_later zero e more = absurd (omega (arith, e, more.0))
     at_later (suc j) e more = more.1 j (omega (arith, e))
 
@@ -121,7 +121,7 @@ module _ (modules : List ModuleConstraints) (links : List Link) (rules : All Kee
   }
   edge_between edge (require r is cl zero_is) =
       let link : Link = record { «module» = edge.caller.module; offset = edge.offset; target = edge.callee.module } in
-      let named = All-contains _ links link are.named cl in
+      let named = All-contains (IsNamed modules) links link are.named cl in
       record {
         caller = at_place modules rules edge.caller is.constraints is.here (omega (arith, (All-contains (IsRequire is.constraints) is.constraints.requires_ r (keeps modules rules edge.caller.module is.constraints is.here).requires_ is.require).1, is.holder));
         callee = body_there modules rules edge.callee named.target zero_is;

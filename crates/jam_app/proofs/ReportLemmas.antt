@@ -27,7 +27,6 @@ use Rattle.alarms.specs.declared.found.Found.{Found}
 use Rattle.report_text.specs.declared.report.Counts.{Counts}
 use Rattle.report_text.specs.declared.report.Note.{Note}
 use Rattle.report_text.specs.declared.report.Report.{Report}
-use Rattle.jam_app.specs.declared.audit.showing.Sources.{Sources}
 use Rattle.jam_app.specs.declared.loading.loaded.Loaded.{Loaded}
 use Rattle.jam_app.specs.AuditFiles.{HasAdvisories, HasLock}
 use Rattle.jam_app.specs.Audits.{IsReport, function_total}
@@ -45,10 +44,11 @@ use Rattle.jam_app.proofs.Wide.{parts_lists}
 use Rattle.jam_app.proofs.WholeGraph.{constraints_same, graph_is}
 
 -- alarms that were found name items of their lists
-pub in_lists : (sources : Sources) (parts : List Part) (reached : FunctionRef → Bool) (found : List Found) → AreAlarms sources.lock.now.entries sources.advisories.now parts reached found → All (IsInLists sources) found
-in_lists sources parts reached found are =
-    All-weaker (Contains found) (IsInLists sources)
-    (λ x h. let a = (are.alarms_are x).0 h in record { advisory = slice_get_within sources.advisories.now x.advisory a.advisory a.advisory_at; entry = slice_get_within sources.lock.now.entries x.entry a.entry a.entry_at }) found (All-contains_itself found)
+pub in_lists : (entries : List LockEntry) (advisories : List Advisory) (parts : List Part) (reached : FunctionRef → Bool) (found : List Found) → AreAlarms entries advisories parts reached found
+    → All (IsInLists entries advisories) found
+in_lists entries advisories parts reached found are =
+    All-weaker (Contains found) (IsInLists entries advisories)
+    (λ x h. let a = (are.alarms_are x).0 h in record { advisory = slice_get_within advisories x.advisory a.advisory a.advisory_at; entry = slice_get_within entries x.entry a.entry a.entry_at }) found (All-contains_itself found)
 
 -- functions are no more than the size of their parts
 functions_size : (fs : List FunctionInfo) → length fs ≤ sum_by function_size fs

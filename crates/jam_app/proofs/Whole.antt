@@ -1,5 +1,5 @@
 -- The beginning of loading, and its end.
-use Rattle.std.proofs.Common.{◌≡◌, ℕ, ◌+◌, ◌<◌, ◌≤◌, List, [], ◌∷◌, ◌++◌, length, map, refl, ap, sym, subst, ◌∙◌, arith, ⊎_elim, length-append, true≢false, Bool, Option, Some}
+use Rattle.std.proofs.Common.{◌≡◌, ℕ, suc, ◌+◌, ◌<◌, ◌≤◌, List, [], ◌∷◌, ◌++◌, length, map, refl, ap, sym, subst, ◌∙◌, arith, ⊎_elim, length-append, true≢false, Bool, Option, Some}
 use Rattle.std.specs.Option.{is_some}
 use Rattle.std.specs.Prelude.{All, Contains, IsSome}
 use Rattle.std.specs.BTreeMap as tree
@@ -69,7 +69,7 @@ analysed_all modules held (e ∷ es) found =
 
 length_values : (es : List (List ℕ × Loaded)) → length (values_of es) ≡ length es
 length_values [] = refl
-length_values (e ∷ es) = ap (λ n. 1 + n) (length_values es)
+length_values (e ∷ es) = ap suc (length_values es)
 
 module _ (modules : BTreeMap (List ℕ) Loaded) (listed : List Loaded) (held : HoldsAnalysed modules) (ordered : IsOrdered (slice_cmp nat_cmp) modules) (is : listed ≡ tree.values modules) where
   all : (map path_of (tree.values modules) ≡ tree.keys modules) × All IsAnalysed (tree.values modules)
@@ -128,7 +128,6 @@ module _ (m : Files) (start : Start) (progress : Progress) (stands : Stands star
   none_owed fits owed (no_entry no_path) = none-some stands.entry (sym no_path ∙ stands.found)
   none_owed fits owed (too_many earlier path one) = no_excess earlier path fits one
   none_owed fits owed (too_large path first over) = no_first_bad path first
-  none_owed fits owed (construct path at what first within refused) = no_first_bad path first
   none_owed fits owed (construct path at what first within refused) = no_first_bad path first
   none_owed fits owed (not_in_profile path at first within refused) = no_first_bad path first
 

@@ -17,9 +17,9 @@ use Rattle.report_text.specs.declared.report.Note.{Note}
 use Rattle.report_text.specs.declared.report.Report.{Report}
 
 -- the advisory and the installed package are in their lists
-pub record IsInLists (sources : Sources) (found : Found) : Type 0 where
-  pub advisory : found.advisory < length sources.advisories.now
-  pub entry : found.entry < length sources.lock.now.entries
+pub record IsInLists (entries : List LockEntry) (advisories : List Advisory) (found : Found) : Type 0 where
+  pub advisory : found.advisory < length advisories
+  pub entry : found.entry < length entries
 
 abbrev pub id_of : Option Advisory → List ℕ
 id_of None = []

@@ -30,7 +30,7 @@ pub(crate) fn shown_alarms(
     sources: &Sources<'_>,
     found: &[Found],
 ) -> Result<Vec<Alarm>, OutOfMemory>
-    requires { All (IsInLists sources.now) found.now }
+    requires { All (IsInLists sources.now.lock.now.entries sources.now.advisories.now) found.now }
     ensures { IfOk result (λ alarms. alarms.items ≡ map (shown_found sources.now) found.now) }
 {
     let mut alarms = Vec::new(alloc);
@@ -51,7 +51,7 @@ fn shown_alarm(
     steps: &[PathStep],
     found: &Found,
 ) -> Result<Alarm, OutOfMemory>
-    requires there { IsInLists sources.now found.now }
+    requires there { IsInLists sources.now.lock.now.entries sources.now.advisories.now found.now }
     requires steps { steps.now ≡ map (edge_among sources.now.printed.now) sources.now.edges.now }
     ensures { IfOk result (λ alarm. alarm ≡ shown_found sources.now found.now) }
 {

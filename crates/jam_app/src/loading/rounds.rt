@@ -173,7 +173,7 @@ pub(crate) fn load<F: Folder, L: Ledger>(
     ensures same { F.files folder.new ≡ F.files folder.old }
     ensures counts { CountsFaults (F.faults folder.old) (F.faults folder.new) result }
 {
-    let entry = entry_path(alloc, folder, entry)?;
+    let first = entry_path(alloc, folder, entry)?;
     let mut progress = Progress {
         modules: BTreeMap::new(alloc),
         size: Size {
@@ -181,10 +181,13 @@ pub(crate) fn load<F: Folder, L: Ledger>(
             bytes: 0,
         },
     };
-    let mut round = vec![in alloc; entry.copy(alloc)?]?;
+    let mut round = vec![in alloc; first.copy(alloc)?]?;
     while !round.is_empty() {
         round = load_round(alloc, folder, &mut progress, round, skip, steps)?;
     }
     let modules = by_path(alloc, progress.modules)?;
-    Ok(Application { entry, modules })
+    Ok(Application {
+        entry: first,
+        modules,
+    })
 }

@@ -6,15 +6,11 @@ use Rattle.jam_app.specs.Lines.{TellsRefusal}
 use Rattle.jam_app.specs.Stops.{Refuses, StopsForAdvisories}
 use Rattle.jam_app.proofs.answers.file_message.wrong_advisories.Goals as goal
 
-pub advised-in-Field-requires : goal.advised-in-Field-requires
-advised-in-Field-requires c =
-    subst (λ (f : AdvisoryFault). TellsRefusal (refusal.Advisory f) c.of.result) (sym c.in-Field.is)
-    (c.of.ensures (refusal.Advisory (advisory_fault.Field c.in-Field.index c.in-Field.field)) c.field_line.ensures)
+pub advised-requires-in-Field : goal.advised-requires-in-Field
+advised-requires-in-Field c = c.of.ensures (refusal.Advisory (advisory_fault.Field c.in-Field.index c.in-Field.field)) c.field_line.ensures
 
-pub advised-in-Range-requires : goal.advised-in-Range-requires
-advised-in-Range-requires c =
-    subst (λ (f : AdvisoryFault). TellsRefusal (refusal.Advisory f) c.of-in-Range.result) (sym c.in-Range.is)
-    (c.of-in-Range.ensures (refusal.Advisory (advisory_fault.Range c.in-Range.index c.in-Range.at)) c.range_line.ensures)
+pub advised-requires-in-Range : goal.advised-requires-in-Range
+advised-requires-in-Range c = c.of-in-Range.ensures (refusal.Advisory (advisory_fault.Range c.in-Range.index c.in-Range.at)) c.range_line.ensures
 
 pub returns-in-NotJson : goal.returns-in-NotJson
 returns-in-NotJson c =
@@ -26,8 +22,8 @@ returns-in-Shape c =
 
 pub returns-in-Field : goal.returns-in-Field
 returns-in-Field c =
-    subst (λ (f : AdvisoryFault). StopsForAdvisories f c.advised-in-Field.result) (sym c.in-Field.is) (subst (λ (f : AdvisoryFault). Refuses (refusal.Advisory f) c.advised-in-Field.result) c.in-Field.is c.advised-in-Field.ensures)
+    subst (λ (f : AdvisoryFault). StopsForAdvisories f c.advised-in-Field.result) (sym c.in-Field.is) c.advised-in-Field.ensures
 
 pub returns-in-Range : goal.returns-in-Range
 returns-in-Range c =
-    subst (λ (f : AdvisoryFault). StopsForAdvisories f c.advised-in-Range.result) (sym c.in-Range.is) (subst (λ (f : AdvisoryFault). Refuses (refusal.Advisory f) c.advised-in-Range.result) c.in-Range.is c.advised-in-Range.ensures)
+    subst (λ (f : AdvisoryFault). StopsForAdvisories f c.advised-in-Range.result) (sym c.in-Range.is) c.advised-in-Range.ensures

@@ -11,8 +11,8 @@ returns-in-Some-clause-gives g c =
     let name = c.args.name.now in
     gives_through (λ m found. option_map (λ v. v.items) found ≡ finite.get m c.in-Some.path) (λ m found. option_map (λ v. v.items) found ≡ file_named m name) (λ m owed. ⊥) (λ m owed. ⊥)
     files files _ _ _ c.file_at.result refl (omega arith)
-    (any_files files (λ m. (λ found e. e ∙ sym (ap (λ (o : Option (List ℕ)). option_and_then (finite.get m) o) (sym c.in_ok-read.ensures ∙ c.in-Some.is)), λ owed never. never))) c.file_at.ensures.gives
+    (any_files files (λ m. (λ found e. e ∙ sym (ap (λ (o : Option (List ℕ)). option_and_then (finite.get m) o) (sym c.in_ok-path.ensures ∙ c.in-Some.is)), λ owed never. never))) c.file_at.ensures.gives
 
 pub returns-in-None-clause-gives : goal.returns-in-None-clause-gives
 returns-in-None-clause-gives g c =
-    any_files (g.F.Folder.files c.args.folder.now) (λ m. sym (ap (λ (o : Option (List ℕ)). option_and_then (finite.get m) o) (sym c.in_ok-read.ensures ∙ c.in-None.is)))
+    any_files (g.F.Folder.files c.args.folder.now) (λ m. sym (ap (λ (o : Option (List ℕ)). option_and_then (finite.get m) o) (sym c.in_ok-path.ensures ∙ c.in-None.is)))

@@ -11,7 +11,7 @@ use Rattle.composer.specs.Parts.{lists_of}
 use Rattle.composer.specs.declared.application.Part.{Part}
 use Rattle.reach_path.specs.Levels.{IsBetween, IsFunction, body_of}
 use Rattle.reach_path.specs.Reached.{IsReachOf, path_to}
-use Rattle.jam_app.specs.Showing.{IsInLists, function_counts, shown_found}
+use Rattle.jam_app.specs.Showing.{IsInLists, function_counts, shown_by}
 use Rattle.jam_app.proofs.EdgeEnds.{body_there, edges_between}
 use Rattle.jam_app.proofs.ReportLemmas.{few_functions, in_lists}
 use Rattle.jam_app.proofs.audit.report.graph_report.Goals as goal
@@ -40,8 +40,10 @@ reach-requires-clause-entry c =
 
 pub shown_alarms-requires : goal.shown_alarms-requires
 shown_alarms-requires c =
+    let entries = c.args.lock.now.entries in
+    let advisories = c.args.advisories.now in
     let reached : FunctionRef → Bool = λ f. is_some (path_to c.in_ok-reach.reach f) in
-    subst (λ (xs : List Found). All (IsInLists _) xs) (sym c.as_slice-2.ensures.value) (in_lists _ c.args.parts.now reached c.in_ok-found.found.items c.in_ok-found.ensures)
+    subst (λ (xs : List Found). All (IsInLists entries advisories) xs) (sym c.as_slice-2.ensures.value) (in_lists entries advisories c.args.parts.now reached c.in_ok-found.found.items c.in_ok-found.ensures)
 
 pub returns : goal.returns
 returns c = record {
@@ -49,7 +51,7 @@ returns c = record {
   reach_is = subst (λ (es : List Edge). IsReachOf es c.args.entry c.in_ok-reach.reach) c.edges-edges.ensures c.in_ok-reach.ensures;
   found = c.in_ok-found.found.items;
   found_are = c.in_ok-found.ensures;
-  alarms = c.of.ensures ∙ c.in_ok-alarms.ensures ∙ ap (map (shown_found _)) c.as_slice-2.ensures.value;
+  alarms = c.of.ensures ∙ c.in_ok-alarms.ensures ∙ ap (map (shown_by c.args.lock.now.entries c.args.advisories.now c.args.printed.now c.in_ok-reach.reach)) c.as_slice-2.ensures.value;
   notes_are = c.of-2.ensures;
   counts = λ i. record {
     modules = length c.args.parts.now;

@@ -61,7 +61,7 @@ returns-in_err-report-clause-gives g c =
     let advised = c.in_ok-advisories.advisories in
     let app = c.in_ok-application.application in
     let start : begun (option_map (λ t. t.now) c.start.result) c.skips_refused.result ≡ start_of asked = λ i. begun (c.start.ensures i) (c.skips_refused.ensures i) in
-    let read = three_told files _ _ c.in_ok-lock.ensures.same c.in_ok-advisories.ensures.same c.in_ok-lock.ensures.gives c.in_ok-advisories.ensures.gives c.in_ok-application.ensures.gives in
+    let read = three_told (λ m. HasLock m entries) (λ m. HasAdvisories m c.operand.result.now advised) (λ m. IsWhole (begun (option_map (λ t. t.now) c.start.result) c.skips_refused.result) m app.entry app.modules.items) files _ _ c.in_ok-lock.ensures.same c.in_ok-advisories.ensures.same c.in_ok-lock.ensures.gives c.in_ok-advisories.ensures.gives c.in_ok-application.ensures.gives in
     let whole : IfSome files (λ m. IsWhole (start_of asked) m app.entry app.modules.items × ReadsFiles asked.command asked.operand m)
     = told files read (λ m r. (
       subst (λ (s : Start). IsWhole s m app.entry app.modules.items) start r.2,
@@ -87,7 +87,7 @@ returns-clause-gives g c =
     let report = c.in_ok-report.report in
     let start : begun (option_map (λ t. t.now) c.start.result) c.skips_refused.result ≡ start_of asked = λ i. begun (c.start.ensures i) (c.skips_refused.ensures i) in
     let plain : start_of asked ≡ begun asked.entry asked.skip_refused = ap (λ (k : Command). begun (entry_asked k asked.operand asked.entry) asked.skip_refused) c.requires in
-    told files (three_told files _ _ c.in_ok-lock.ensures.same c.in_ok-advisories.ensures.same c.in_ok-lock.ensures.gives c.in_ok-advisories.ensures.gives c.in_ok-application.ensures.gives) (λ m r.
+    told files (three_told (λ m. HasLock m entries) (λ m. HasAdvisories m c.operand.result.now advised) (λ m. IsWhole (begun (option_map (λ t. t.now) c.start.result) c.skips_refused.result) m app.entry app.modules.items) files _ _ c.in_ok-lock.ensures.same c.in_ok-advisories.ensures.same c.in_ok-lock.ensures.gives c.in_ok-advisories.ensures.gives c.in_ok-application.ensures.gives) (λ m r.
     let whole : IsWhole (start_of asked) m app.entry app.modules.items = subst (λ (s : Start). IsWhole s m app.entry app.modules.items) start r.2 in
     let has : HasAdvisories m asked.operand advised = subst (λ (n : List ℕ). HasAdvisories m n advised) c.operand.ensures r.1 in
     let made = c.in_ok-report.ensures.report asked m r.0 (subst (λ (list : List Advisory). HasAdvisories m asked.operand list) (sym c.as_slice.ensures) has) (subst (λ (s : Start). IsWhole s m app.entry app.modules.items) plain whole) in

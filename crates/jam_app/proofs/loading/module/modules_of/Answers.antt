@@ -1,4 +1,4 @@
-use Rattle.std.proofs.Common.{◌≡◌, ℕ, map, refl, arith}
+use Rattle.std.proofs.Common.{◌≡◌, ℕ, map, refl, arith, ◌∙◌}
 use Rattle.std.specs.Prelude.{All}
 use Rattle.jam_app.specs.Loading.{IsKept}
 use Rattle.jam_app.specs.Reading.{HasBad, IsResolved, parsed_of, source_of}

@@ -11,8 +11,8 @@ returns-then-not-skip-clause-err c files before now =
 pub skipped_file-requires : goal.skipped_file-requires
 skipped_file-requires c = is_bad c.args.source.text c.args.bad (λ e. cc (sym c.in-TooLarge.is ∙ e)) c.requires
 
-pub skipped_file-in-At-requires : goal.skipped_file-in-At-requires
-skipped_file-in-At-requires c = is_bad c.args.source.text c.args.bad (λ e. cc (sym c.in-At.is ∙ e)) c.requires
+pub skipped_file-requires-in-At : goal.skipped_file-requires-in-At
+skipped_file-requires-in-At c = is_bad c.args.source.text c.args.bad (λ e. cc (sym c.in-At.is ∙ e)) c.requires
 
-pub skipped_file-in-Construct-requires : goal.skipped_file-in-Construct-requires
-skipped_file-in-Construct-requires c = is_bad c.args.source.text c.args.bad (λ e. cc (sym c.in-Construct.is ∙ e)) c.requires
+pub skipped_file-requires-in-Construct : goal.skipped_file-requires-in-Construct
+skipped_file-requires-in-Construct c = is_bad c.args.source.text c.args.bad (λ e. cc (sym c.in-Construct.is ∙ e)) c.requires

@@ -17,15 +17,15 @@ loop-alloc-init g c =
     let start = begun (option_map (λ t. t.now) c.args.entry) c.args.skip in
     let progress : Progress = record { modules = c.new.result; size = record { modules = 0; bytes = 0 } } in
     record {
-      stands = told (g.F.Folder.files c.args.folder.now) c.in_ok-entry.ensures.gives (λ m found. subst (Stands start m progress) (sym (c.in_ok-round.ensures.items ∙ ap (λ p. p ∷ []) c.in_ok-copy.ensures))
-          (stands_first m start c.in_ok-entry.entry progress found c.new.ensures.empty refl));
+      stands = told (g.F.Folder.files c.args.folder.now) c.in_ok-first.ensures.gives (λ m found. subst (Stands start m progress) (sym (c.in_ok-round.ensures.items ∙ ap (λ p. p ∷ []) c.in_ok-copy.ensures))
+          (stands_first m start c.in_ok-first.first progress found c.new.ensures.empty refl));
       held = nothing_held c.new.result c.new.ensures.empty;
       few = omega (arith, c.new.ensures.len);
-      there = inr (subst (λ (ps : List (List ℕ)). Contains ps c.in_ok-entry.entry) (sym (c.in_ok-round.ensures.items ∙ ap (λ p. p ∷ []) c.in_ok-copy.ensures)) (here c.in_ok-entry.entry []));
+      there = inr (subst (λ (ps : List (List ℕ)). Contains ps c.in_ok-first.first) (sym (c.in_ok-round.ensures.items ∙ ap (λ p. p ∷ []) c.in_ok-copy.ensures)) (here c.in_ok-first.first []));
       modules = omega arith;
       bytes = omega arith;
-      same = c.in_ok-entry.ensures.same;
-      quiet = c.in_ok-entry.ensures.counts.done;
+      same = c.in_ok-first.ensures.same;
+      quiet = c.in_ok-first.ensures.counts.done;
     }
 
 pub loop-alloc-preserved : goal.loop-alloc-preserved
@@ -41,7 +41,7 @@ loop-alloc-preserved g c =
       stands = both_told files inv.stands step (λ m stands next. next entry stands);
       held = c.in_ok-round-2.ensures.held;
       few = c.in_ok-round-2.ensures.few;
-      there = inl (c.in_ok-round-2.ensures.there c.in_ok-entry.entry inv.there);
+      there = inl (c.in_ok-round-2.ensures.there c.in_ok-first.first inv.there);
       modules = c.in_ok-round-2.ensures.modules;
       bytes = c.in_ok-round-2.ensures.bytes;
       same = c.in_ok-round-2.ensures.same ∙ inv.same;
@@ -64,8 +64,8 @@ pub returns-clause-gives : goal.returns-clause-gives
 returns-clause-gives g c =
     let none : c.loop-alloc.round.items ≡ [] = is_nothing c.loop-alloc.round.items _ c.is_empty.result c.loop-alloc.round.ok.0 c.is_empty.ensures c.loop-alloc-test.false in
     let start = begun (option_map (λ t. t.now) c.args.entry) c.args.skip in
-    both_told (g.F.Folder.files c.args.folder.now) c.loop-alloc.invariant.stands c.in_ok-entry.ensures.gives (λ m stands found.
-    whole_from m start c.loop-alloc.progress c.in_ok-entry.entry (subst (Stands start m c.loop-alloc.progress) none stands) found c.in_ok-modules.modules.items c.loop-alloc.invariant.modules c.loop-alloc.invariant.bytes
+    both_told (g.F.Folder.files c.args.folder.now) c.loop-alloc.invariant.stands c.in_ok-first.ensures.gives (λ m stands found.
+    whole_from m start c.loop-alloc.progress c.in_ok-first.first (subst (Stands start m c.loop-alloc.progress) none stands) found c.in_ok-modules.modules.items c.loop-alloc.invariant.modules c.loop-alloc.invariant.bytes
     c.in_ok-modules.ensures.ordered c.in_ok-modules.ensures.listed)
 
 pub returns-clause-sorted : goal.returns-clause-sorted
@@ -77,8 +77,8 @@ returns-clause-analysed g c = listed_analysed c.loop-alloc.progress.modules c.in
 pub returns-clause-entry : goal.returns-clause-entry
 returns-clause-entry g c =
     let no_round : c.loop-alloc.round.items ≡ [] = is_nothing c.loop-alloc.round.items _ c.is_empty.result c.loop-alloc.round.ok.0 c.is_empty.ensures c.loop-alloc-test.false in
-    listed_has c.loop-alloc.progress.modules c.in_ok-modules.modules.items c.loop-alloc.invariant.held c.in_ok-modules.ensures.ordered c.in_ok-modules.ensures.listed c.in_ok-entry.entry
-    (elim c.loop-alloc.invariant.there [ inl found ↦ found | inr in_round ↦ absurd (none c.in_ok-entry.entry (subst (λ (ps : List (List ℕ)). Contains ps c.in_ok-entry.entry) no_round in_round)) ])
+    listed_has c.loop-alloc.progress.modules c.in_ok-modules.modules.items c.loop-alloc.invariant.held c.in_ok-modules.ensures.ordered c.in_ok-modules.ensures.listed c.in_ok-first.first
+    (elim c.loop-alloc.invariant.there [ inl found ↦ found | inr in_round ↦ absurd (none c.in_ok-first.first (subst (λ (ps : List (List ℕ)). Contains ps c.in_ok-first.first) no_round in_round)) ])
 
 pub returns-clause-few : goal.returns-clause-few
 returns-clause-few g c =
@@ -88,9 +88,9 @@ returns-clause-few g c =
 pub returns-in_err-round-2-clause-counts : goal.returns-in_err-round-2-clause-counts
 returns-in_err-round-2-clause-counts g c = counts_on _ _ _ c.in_err-round-2.field-0.0 c.from_residual-in_err-round-2.result c.from_residual-in_err-round-2.ensures.1 c.loop-alloc.invariant.quiet c.in_err-round-2.ensures.counts
 
-pub returns-in_err-entry-clause-gives : goal.returns-in_err-entry-clause-gives
-returns-in_err-entry-clause-gives g c =
+pub returns-in_err-first-clause-gives : goal.returns-in_err-first-clause-gives
+returns-in_err-first-clause-gives g c =
     let files = g.F.Folder.files c.args.folder.now in
     let entry = option_map (λ t. t.now) c.args.entry in
-    handed_on _ (λ m owed. (skip : Bool) → IsLoadRefusal (begun entry skip) m owed) _ files _ _ _ _ c.in_err-entry.field-0.0 c.from_residual.result
-    c.from_residual.ensures.1 refl (omega arith) (any_files files (λ m owed refused. refused c.args.skip)) c.in_err-entry.ensures.gives
+    handed_on _ (λ m owed. (skip : Bool) → IsLoadRefusal (begun entry skip) m owed) _ files _ _ _ _ c.in_err-first.field-0.0 c.from_residual.result
+    c.from_residual.ensures.1 refl (omega arith) (any_files files (λ m owed refused. refused c.args.skip)) c.in_err-first.ensures.gives

@@ -11,7 +11,7 @@ invariant-loop-alloc g l = record {
   stands : IfSome (g.F.Folder.files l.fn.folder) (λ m. Stands (begun (option_map (λ t. t.now) l.fn.entry) l.skip) m l.progress l.round.items);
   held : HoldsAnalysed l.progress.modules;
   few : btree_map_len l.progress.modules ≤ l.progress.size.modules;
-  there : IsSome (found_at l.progress.modules l.entry) ⊎ Contains l.round.items l.entry;
+  there : IsSome (found_at l.progress.modules l.first-inside) ⊎ Contains l.round.items l.first-inside;
   modules : l.progress.size.modules ≤ 16384;
   bytes : l.progress.size.bytes ≤ 67108864;
   same : g.F.Folder.files l.folder ≡ g.F.Folder.files l.fn.folder;
