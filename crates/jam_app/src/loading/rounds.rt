@@ -11,6 +11,7 @@ ghost use Rattle.jam_app.specs.Loading.{IsAnalysed};
 ghost use Rattle.jam_app.specs.BetweenRounds.{HoldsAnalysed, Stands, found_at};
 ghost use Rattle.jam_app.specs.Reading.{led_from};
 ghost use Rattle.jam_app.specs.Entries.{begun};
+ghost use Rattle.jam_app.specs.Entries.{entry_path as path_asked};
 ghost use Rattle.jam_app.specs.Refusals.{IsLoadRefusal};
 ghost use Rattle.jam_app.specs.Rounds.{Ascend, byte_limit, module_limit};
 ghost use Rattle.jam_app.specs.Stops.{CountsFaults, Gives};
@@ -174,6 +175,27 @@ pub(crate) fn load<F: Folder, L: Ledger>(
     ensures counts { CountsFaults (F.faults folder.old) (F.faults folder.new) result }
 {
     let first = entry_path(alloc, folder, entry)?;
+    load_from(alloc, folder, first, skip, steps)
+}
+
+// Loads the application whose entry is the module at this path.
+fn load_from<F: Folder, L: Ledger>(
+    alloc: Global,
+    folder: &mut F,
+    first: ModulePath,
+    skip: bool,
+    steps: &mut Steps<L>,
+) -> Result<Application, Stop>
+    ensures gives { Gives (λ m app. (asked : Option (List ℕ)) → path_asked asked m ≡ Some first → IsWhole (begun asked skip) m app.entry app.modules.items)
+        (λ m owed. (asked : Option (List ℕ)) → path_asked asked m ≡ Some first → IsLoadRefusal (begun asked skip) m owed)
+        (F.files folder.old) (F.faults folder.old) (F.faults folder.new) result }
+    ensures sorted { IfOk result (λ app. Ascend (map (λ l. l.path) app.modules.items)) }
+    ensures analysed { IfOk result (λ app. All IsAnalysed app.modules.items) }
+    ensures entry { IfOk result (λ app. Contains (map (λ l. l.path) app.modules.items) app.entry) }
+    ensures few { IfOk result (λ app. length app.modules.items ≤ module_limit) }
+    ensures same { F.files folder.new ≡ F.files folder.old }
+    ensures counts { CountsFaults (F.faults folder.old) (F.faults folder.new) result }
+{
     let mut progress = Progress {
         modules: BTreeMap::new(alloc),
         size: Size {

@@ -1,92 +1,23 @@
+use Rattle.std.proofs.Common.{◌≡◌, Bool, Option, ℕ, List, Some, arith, refl}
 use Rattle.std.specs.Option.{option_map}
-use Rattle.std.proofs.Common.{◌≡◌, ◌<◌, [], ◌∷◌, inl, inr, ap, Bool, Option, ℕ, List, length, arith, refl, sym, subst, ◌∙◌}
-use Rattle.std.specs.Option.{IfSome}
-use Rattle.std.specs.Prelude.{Contains}
-use Rattle.composer.proofs.Members.{here, none}
-use Rattle.jam_app.specs.declared.loading.rounds.Progress.{Progress}
-use Rattle.jam_app.specs.BetweenRounds.{Stands}
-use Rattle.jam_app.specs.Entries.{begun}
+use Rattle.jam_app.specs.Entries.{begun, entry_path}
+use Rattle.jam_app.specs.Loading.{IsWhole}
 use Rattle.jam_app.specs.Refusals.{IsLoadRefusal}
-use Rattle.jam_app.proofs.Ends.{is_nothing, not_empty}
-use Rattle.jam_app.proofs.Causes.{any_files, both_told, counts_on, handed_on, told}
-use Rattle.jam_app.proofs.Whole.{whole_from, listed_analysed, listed_ascend, listed_has, listed_long, nothing_held, stands_first}
+use Rattle.jam_app.proofs.Causes.{any_files, counts_through, gives_through, handed_on, told}
 use Rattle.jam_app.proofs.loading.rounds.load.Goals as goal
-
-pub loop-alloc-init : goal.loop-alloc-init
-loop-alloc-init g c =
-    let start = begun (option_map (λ t. t.now) c.args.entry) c.args.skip in
-    let progress : Progress = record { modules = c.new.result; size = record { modules = 0; bytes = 0 } } in
-    record {
-      stands = told (g.F.Folder.files c.args.folder.now) c.in_ok-first.ensures.gives (λ m found. subst (Stands start m progress) (sym (c.in_ok-round.ensures.items ∙ ap (λ p. p ∷ []) c.in_ok-copy.ensures))
-          (stands_first m start c.in_ok-first.first progress found c.new.ensures.empty refl));
-      held = nothing_held c.new.result c.new.ensures.empty;
-      few = omega (arith, c.new.ensures.len);
-      there = inr (subst (λ (ps : List (List ℕ)). Contains ps c.in_ok-first.first) (sym (c.in_ok-round.ensures.items ∙ ap (λ p. p ∷ []) c.in_ok-copy.ensures)) (here c.in_ok-first.first []));
-      modules = omega arith;
-      bytes = omega arith;
-      same = c.in_ok-first.ensures.same;
-      quiet = c.in_ok-first.ensures.counts.done;
-    }
-
-pub loop-alloc-preserved : goal.loop-alloc-preserved
-loop-alloc-preserved g c =
-    let inv = c.loop-alloc.invariant in
-    let files = g.F.Folder.files c.args.folder.now in
-    let old = c.loop-alloc.progress in
-    let new = c.load_round.new.progress in
-    let entry = option_map (λ t. t.now) c.args.entry in
-    let step : IfSome files (λ m. (entry : Option (List ℕ)) → Stands (begun entry c.args.skip) m old c.loop-alloc.round.items → Stands (begun entry c.args.skip) m new c.in_ok-round-2.round.items)
-    = subst (λ fs. IfSome fs (λ m. (entry : Option (List ℕ)) → Stands (begun entry c.args.skip) m old c.loop-alloc.round.items → Stands (begun entry c.args.skip) m new c.in_ok-round-2.round.items)) inv.same c.in_ok-round-2.ensures.gives in
-    record {
-      stands = both_told files inv.stands step (λ m stands next. next entry stands);
-      held = c.in_ok-round-2.ensures.held;
-      few = c.in_ok-round-2.ensures.few;
-      there = inl (c.in_ok-round-2.ensures.there c.in_ok-first.first inv.there);
-      modules = c.in_ok-round-2.ensures.modules;
-      bytes = c.in_ok-round-2.ensures.bytes;
-      same = c.in_ok-round-2.ensures.same ∙ inv.same;
-      quiet = c.in_ok-round-2.ensures.counts.done ∙ inv.quiet;
-    }
-
-pub loop-alloc-smaller : goal.loop-alloc-smaller
-loop-alloc-smaller g c =
-    let some : 0 < length c.loop-alloc.round.items = not_empty c.loop-alloc.round.items _ c.is_empty.result c.loop-alloc.round.ok.0 c.is_empty.ensures c.loop-alloc-test.true in
-    omega (arith, c.in_ok-round-2.ensures.counted, c.in_ok-round-2.ensures.modules, some)
-
-pub returns-in_err-round-2-clause-gives : goal.returns-in_err-round-2-clause-gives
-returns-in_err-round-2-clause-gives g c =
-    let inv = c.loop-alloc.invariant in
-    let files = g.F.Folder.files c.args.folder.now in
-    handed_on _ (λ m owed. (entry : Option (List ℕ)) → Stands (begun entry c.args.skip) m c.loop-alloc.progress c.loop-alloc.round.items → IsLoadRefusal (begun entry c.args.skip) m owed) _ files _ _ _ _ c.in_err-round-2.field-0.0 c.from_residual-in_err-round-2.result
-    c.from_residual-in_err-round-2.ensures.1 inv.same (omega (arith, inv.quiet)) (told files inv.stands (λ m stands owed refused. refused (option_map (λ t. t.now) c.args.entry) stands)) c.in_err-round-2.ensures.gives
 
 pub returns-clause-gives : goal.returns-clause-gives
 returns-clause-gives g c =
-    let none : c.loop-alloc.round.items ≡ [] = is_nothing c.loop-alloc.round.items _ c.is_empty.result c.loop-alloc.round.ok.0 c.is_empty.ensures c.loop-alloc-test.false in
-    let start = begun (option_map (λ t. t.now) c.args.entry) c.args.skip in
-    both_told (g.F.Folder.files c.args.folder.now) c.loop-alloc.invariant.stands c.in_ok-first.ensures.gives (λ m stands found.
-    whole_from m start c.loop-alloc.progress c.in_ok-first.first (subst (Stands start m c.loop-alloc.progress) none stands) found c.in_ok-modules.modules.items c.loop-alloc.invariant.modules c.loop-alloc.invariant.bytes
-    c.in_ok-modules.ensures.ordered c.in_ok-modules.ensures.listed)
+    let files = g.F.Folder.files c.args.folder.now in
+    let entry : Option (List ℕ) = option_map (λ t. t.now) c.args.entry in
+    let skip : Bool = c.args.skip in
+    let first : List ℕ = c.in_ok-first.first in
+    gives_through (λ m app. (asked : Option (List ℕ)) → entry_path asked m ≡ Some first → IsWhole (begun asked skip) m app.entry app.modules.items) (λ m app. IsWhole (begun entry skip) m app.entry app.modules.items)
+    (λ m owed. (asked : Option (List ℕ)) → entry_path asked m ≡ Some first → IsLoadRefusal (begun asked skip) m owed) (IsLoadRefusal (begun entry skip)) files _ _ _ _ c.load_from.result c.in_ok-first.ensures.same c.in_ok-first.ensures.counts.later
+    (told files c.in_ok-first.ensures.gives (λ m found. (λ app whole. whole entry found, λ owed refused. refused entry found))) c.load_from.ensures.gives
 
-pub returns-clause-sorted : goal.returns-clause-sorted
-returns-clause-sorted g c = listed_ascend c.loop-alloc.progress.modules c.in_ok-modules.modules.items c.loop-alloc.invariant.held c.in_ok-modules.ensures.ordered c.in_ok-modules.ensures.listed
-
-pub returns-clause-analysed : goal.returns-clause-analysed
-returns-clause-analysed g c = listed_analysed c.loop-alloc.progress.modules c.in_ok-modules.modules.items c.loop-alloc.invariant.held c.in_ok-modules.ensures.ordered c.in_ok-modules.ensures.listed
-
-pub returns-clause-entry : goal.returns-clause-entry
-returns-clause-entry g c =
-    let no_round : c.loop-alloc.round.items ≡ [] = is_nothing c.loop-alloc.round.items _ c.is_empty.result c.loop-alloc.round.ok.0 c.is_empty.ensures c.loop-alloc-test.false in
-    listed_has c.loop-alloc.progress.modules c.in_ok-modules.modules.items c.loop-alloc.invariant.held c.in_ok-modules.ensures.ordered c.in_ok-modules.ensures.listed c.in_ok-first.first
-    (elim c.loop-alloc.invariant.there [ inl found ↦ found | inr in_round ↦ absurd (none c.in_ok-first.first (subst (λ (ps : List (List ℕ)). Contains ps c.in_ok-first.first) no_round in_round)) ])
-
-pub returns-clause-few : goal.returns-clause-few
-returns-clause-few g c =
-    let long = listed_long c.loop-alloc.progress.modules c.in_ok-modules.modules.items c.loop-alloc.invariant.held c.in_ok-modules.ensures.ordered c.in_ok-modules.ensures.listed in
-    omega (arith, long, c.loop-alloc.invariant.few, c.loop-alloc.invariant.modules)
-
-pub returns-in_err-round-2-clause-counts : goal.returns-in_err-round-2-clause-counts
-returns-in_err-round-2-clause-counts g c = counts_on _ _ _ c.in_err-round-2.field-0.0 c.from_residual-in_err-round-2.result c.from_residual-in_err-round-2.ensures.1 c.loop-alloc.invariant.quiet c.in_err-round-2.ensures.counts
+pub returns-clause-counts : goal.returns-clause-counts
+returns-clause-counts g c = counts_through _ _ _ c.load_from.result c.in_ok-first.ensures.counts.done c.load_from.ensures.counts
 
 pub returns-in_err-first-clause-gives : goal.returns-in_err-first-clause-gives
 returns-in_err-first-clause-gives g c =
