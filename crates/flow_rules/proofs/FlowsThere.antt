@@ -3,6 +3,8 @@ use Rattle.std.proofs.Common.{◌≡◌, ℕ, suc, ◌+◌, ◌≤◌, Bool, tru
 use Rattle.std.specs.Prelude.{Contains}
 use Rattle.std.specs.List.{AllByRecursion, flat_map}
 use Rattle.js_tree.specs.declared.lists.Arm.{Arm}
+use Rattle.js_tree.specs.declared.lists.ArrowParams.{ArrowParams}
+use Rattle.js_tree.specs.declared.lists.ArrowParams.TheVariants as shape
 use Rattle.js_tree.specs.declared.lists.Bracket.{Bracket}
 use Rattle.js_tree.specs.declared.lists.Element.{Element}
 use Rattle.js_tree.specs.declared.lists.Further.{Further}
@@ -11,21 +13,25 @@ use Rattle.js_tree.specs.declared.lists.Listed.{Listed}
 use Rattle.js_tree.specs.declared.lists.Tail.{Tail}
 use Rattle.js_tree.specs.declared.lists.Tail.TheVariants as tail
 use Rattle.js_tree.specs.declared.tree.Expr.{Expr, out-Expr}
-use Rattle.js_tree.specs.declared.tree.Expr.TheOpen.{Expr-F, Function-F, Pattern-F, Stmt-F}
+use Rattle.js_tree.specs.declared.tree.Expr.TheOpen.{Expr-F, Function-F, Pattern-F, PatternProperty-F, Property-F, Stmt-F}
 use Rattle.js_tree.specs.declared.tree.Function.{Function, out-Function}
+use Rattle.js_tree.specs.declared.tree.Key.{Key, out-Key}
 use Rattle.js_tree.specs.declared.tree.Pattern.{Pattern, out-Pattern}
+use Rattle.js_tree.specs.declared.tree.PatternProperty.{out-PatternProperty}
+use Rattle.js_tree.specs.declared.tree.Property.{out-Property}
 use Rattle.js_tree.specs.declared.tree.Slot.{Slot, out-Slot}
 use Rattle.js_tree.specs.declared.tree.Stmt.{out-Stmt}
 use Rattle.js_tree.specs.declared.tree.Tree.{Tree}
-use Rattle.js_tree.specs.Folds.{ExprLayer, FunctionLayer, PatternLayer, StmtLayer}
+use Rattle.js_tree.specs.Folds.{ExprLayer, FunctionLayer, PatternLayer, PatternPropertyLayer, PropertyLayer, StmtLayer}
 use Rattle.js_tree.specs.Line.{items}
 use Rattle.js_tree.specs.Operators.{is_binary}
-use Rattle.js_tree.specs.Parts.{Node, AnExpr, AFunction, APattern, AStmt, ASlot, ATail, ABody, nodes}
+use Rattle.js_tree.specs.Parts.{Node, AnExpr, AFunction, AKey, APattern, APatternProperty, AProperty, AStmt, ASlot, ATail, ABody, nodes}
 use Rattle.js_tree.specs.Spelling.Expressions.{expr_row}
 use Rattle.js_tree.specs.Spelling.Functions.{function_row}
 use Rattle.js_tree.specs.Spelling.Nodes.{unmarked}
-use Rattle.js_tree.specs.Spelling.Patterns.{slot_row}
-use Rattle.js_tree.specs.Spelling.Rows.{arm_row, bracket_row, each_of, further_row, maybe}
+use Rattle.js_tree.specs.Spelling.Patterns.{pattern_row, pattern_property_row, slot_row}
+use Rattle.js_tree.specs.Spelling.Properties.{property_row}
+use Rattle.js_tree.specs.Spelling.Rows.{arm_row, arrow_params_row, each_of, further_row, maybe, round_row}
 use Rattle.js_tree.specs.Spelling.Statements.{stmt_row}
 use Rattle.js_tree.specs.Tokens.{IsInText, IsOfText, tokens_among}
 use Rattle.js_tree.proofs.EachNode.{gathered_keeps}
@@ -35,7 +41,7 @@ use Rattle.js_scopes.specs.declared.binding.Binding.TheVariants as binding
 use Rattle.js_scopes.specs.declared.function.FunctionInfo.{FunctionInfo}
 use Rattle.js_scopes.specs.Brackets.{elements, placed}
 use Rattle.js_scopes.specs.Calls.{Known, call_sites, holder_in, is_required, last_member, made_with, site_at, sites_of_expr}
-use Rattle.js_scopes.specs.Functions.{info_in, is_assignment, name_in, params_in, start_of}
+use Rattle.js_scopes.specs.Functions.{arrow_slots, has_rest, info_in, is_assignment, name_in, params_in, start_of}
 use Rattle.js_scopes.specs.Scopes.{around_module, binding_of, known_of, numbering_of}
 use Rattle.flow_rules.specs.declared.arguments.Argument.{Argument}
 use Rattle.flow_rules.specs.declared.arguments.Argument.TheVariants as argument
@@ -45,13 +51,17 @@ use Rattle.flow_rules.specs.declared.vertex.Vertex.TheVariants.{Elem, Param, Res
 use Rattle.flow_rules.specs.Arguments.{arguments_meant}
 use Rattle.flow_rules.specs.Constraints.{ModuleConstraints}
 use Rattle.flow_rules.specs.Calls.{argument_of, ends_in_member, flow, handing_flows, member_flows, tagged_with, tail_flows, unrequired_flows}
-use Rattle.flow_rules.specs.Flows.{expr_flows, facts_of, flows_in, function_flows, given_flows, into, joined_flow, named_flows, own_flows, params_flows, pattern_flows, rest_flows, stmt_flows}
-use Rattle.flow_rules.specs.Rules.{HasFunction, IsFlow}
+use Rattle.flow_rules.specs.Flows.{arrow_flows, expr_flows, facts_of, flows_in, function_flows, given_flows, into, into_slot, item_flows, joined_flow, named_flows, own_flows, params_flows, pattern_flows, pattern_property_flows, property_flows, rest_flows, rest_param_flows, slot_item_flows, stmt_flows}
+use Rattle.flow_rules.specs.Keys.{key_name, key_vertex, named_vertex, shorthand_vertex, taken_vertex}
+use Rattle.flow_rules.specs.Rules.{HasFunction, IsFlow, IsNamed}
 use Rattle.flow_rules.specs.Values.{Facts, choice_mark, joined_vertex, object_value, operator_mark, place, token_vertex, value, value_up_to, OR}
 use Rattle.flow_rules.proofs.CallRules.{IsArgNamed, IsNamedIfAny, arguments_there, call_at, flow_there, handing_there, member_there, pick_some, places}
 use Rattle.flow_rules.proofs.MeantFunctions.{IsMeantBelow, meant_below}
-use Rattle.flow_rules.proofs.NodesOfTree.{IsNodeOf, all_in, found, function_there, inner, number_below, own_text, param_at, parts_of, sites_there}
-use Rattle.flow_rules.proofs.RowItems.{behind_tails, each_gives, each_made, elements_have, items_have, placed_have, substitutions_have}
+use Rattle.flow_rules.proofs.Ones.{short}
+use Rattle.flow_rules.proofs.ShortNames.{key_short}
+use Rattle.flow_rules.proofs.ValueTexts.{IsShortIfAny}
+use Rattle.flow_rules.proofs.NodesOfTree.{IsNodeOf, all_in, found, function_there, in_text, inner, number_below, own_text, param_at, parts_of, sites_there}
+use Rattle.flow_rules.proofs.RowItems.{HasItem, array_have, behind_bracket, behind_tails, each_gives, each_made, elements_have, items_have, placed_have, substitutions_have}
 use Rattle.flow_rules.proofs.ValuesThere.{StandsIn, all_stand, call_holder, joined_there, own_calls, place_there, tails_up_to, token_there, value_there}
 
 module _ (tree : Tree) (h : IsInText (ABody tree.body)) where
@@ -94,16 +104,59 @@ module _ (tree : Tree) (h : IsInText (ABody tree.body)) where
   into_there : (p : Pattern) → In (APattern p) → (from : Option Vertex) → Any from → AllByRecursion Good (into facts p from)
   into_there p i from v = flow_there lists from (place facts p) v (place_there tree p i)
 
-  pattern_flow : (l : PatternLayer) → AllByRecursion Good (pattern_flows known l)
-  pattern_flow (Pattern-F.«Pattern::Name» t) = meant_there (binding_of tree t.start) (meant t.start)
-  pattern_flow _ = tt
+  -- values come to a slot
+  into_slot_there : (s : Slot) → In (ASlot s) → (from : Option Vertex) → Any from → AllByRecursion Good (into_slot facts s from)
+  into_slot_there s i from v = into_there (out-Slot s).target (parts_of tree (ASlot s) i).0 from v
+
+  pattern_flow : (l : PatternLayer) → AllByRecursion In (pattern_row nodes l []) → AllByRecursion Good (pattern_flows facts l)
+  pattern_flow (Pattern-F.«Pattern::Name» t) i = meant_there (binding_of tree t.start) (meant t.start)
+  pattern_flow (Pattern-F.«Pattern::Array» slots) i = each_gives (HasItem In ASlot) Good (slot_item_flows facts) one (elements slots) (array_have In ASlot slots [] i)
+    where
+      one : (o : Option (Element Slot)) → HasItem In ASlot o → AllByRecursion Good (slot_item_flows facts o)
+      one None j = tt
+      one (Some e) j = by (is_some e.dots)
+        where
+          by : (z : Bool) → AllByRecursion Good (if z then [] else into_slot facts e.value (Some Elem))
+          by true = tt
+          by false = into_slot_there e.value j (Some Elem) tt
+  pattern_flow _ i = tt
+
+  -- PROPERTIES
+
+  key_there : (k : Key) → In (AKey k) → IsNamed lists (key_vertex k)
+  key_there k i = by (key_name (out-Key k)) (key_short k (in_text tree (AKey k) i))
+    where
+      by : (o : Option (List ℕ)) → IsShortIfAny o → IsNamed lists (named_vertex o)
+      by None s = tt
+      by (Some name) s = s
+
+  property_flow : (l : PropertyLayer) → AllByRecursion In (property_row nodes l []) → AllByRecursion Good (property_flows facts l)
+  property_flow (Property-F.Pair key colon x) i = flow_there lists (value facts x) (Some (key_vertex key)) (value_there tree x i.1.0) (key_there key i.0)
+  property_flow (Property-F.Shorthand x) i = flow_there lists (value facts x) (shorthand_vertex (out-Expr x)) (value_there tree x i.0) (by (out-Expr x) (own_text tree (AnExpr x) i.0))
+    where
+      by : (l : ExprLayer) → AllByRecursion IsOfText (tokens_among (expr_row items l [])) → Any (shorthand_vertex l)
+      by (Expr-F.«Expr::Name» t) s = short t s.0
+      by _ s = tt
+  property_flow (Property-F.Spread dots x) i = tt
+
+  taken_there : (p : Pattern) → In (APattern p) → Any (taken_vertex (out-Pattern p))
+  taken_there p i = by (out-Pattern p) (own_text tree (APattern p) i)
+    where
+      by : (l : PatternLayer) → AllByRecursion IsOfText (tokens_among (pattern_row items l [])) → Any (taken_vertex l)
+      by (Pattern-F.«Pattern::Name» t) s = short t s.0
+      by _ s = tt
+
+  pattern_property_flow : (l : PatternPropertyLayer) → AllByRecursion In (pattern_property_row nodes l []) → AllByRecursion Good (pattern_property_flows facts l)
+  pattern_property_flow (PatternProperty-F.Keyed key colon s) i = into_slot_there s i.1.0 (Some (key_vertex key)) (key_there key i.0)
+  pattern_property_flow (PatternProperty-F.Named s) i = into_slot_there s i.0 (taken_vertex (out-Pattern (out-Slot s).target)) (taken_there (out-Slot s).target (parts_of tree (ASlot s) i.0).0)
+  pattern_property_flow (PatternProperty-F.Rest dots s) i = tt
 
   -- ARGUMENTS
 
   abbrev given_by : Element Expr → Argument
   given_by = argument_of facts
 
-  elements_given : (b : Bracket Expr) (rest : List Node) → AllByRecursion In (bracket_row unmarked nodes.expr b rest) → AllByRecursion Given (map given_by (elements b))
+  elements_given : (b : Bracket (Element Expr)) (rest : List Node) → AllByRecursion In (round_row unmarked nodes.expr b rest) → AllByRecursion Given (map given_by (elements b))
   elements_given b rest i = each_made (λ (e : Element Expr). ExprIn e.value) Given given_by one (elements b) (elements_have In AnExpr b rest i)
     where
       one : (e : Element Expr) → ExprIn e.value → Given (given_by e)
@@ -113,7 +166,7 @@ module _ (tree : Tree) (h : IsInText (ABody tree.body)) where
           by true = tt
           by false = value_there tree e.value j
 
-  made_given : (args : Option (Bracket Expr)) → AllByRecursion In (maybe (bracket_row unmarked nodes.expr) args []) → AllByRecursion Given (map given_by (made_with args))
+  made_given : (args : Option (Bracket (Element Expr))) → AllByRecursion In (maybe (round_row unmarked nodes.expr) args []) → AllByRecursion Given (map given_by (made_with args))
   made_given None i = tt
   made_given (Some b) i = elements_given b [] i
 
@@ -139,8 +192,17 @@ module _ (tree : Tree) (h : IsInText (ABody tree.body)) where
 
   expr_flow : (l : ExprLayer) (k : ℕ) → AllByRecursion (Contains lists.sites) (sites_of_expr k l) → AllByRecursion In (expr_row nodes l []) → AllByRecursion Good (expr_flows facts l)
   expr_flow (Expr-F.«Expr::Name» t) k c i = meant_there (binding_of tree t.start) (meant t.start)
+  expr_flow (Expr-F.«Expr::Array» xs) k c i = each_gives (HasItem In AnExpr) Good (item_flows facts) one (elements xs) (array_have In AnExpr xs [] i)
+    where
+      one : (o : Option (Element Expr)) → HasItem In AnExpr o → AllByRecursion Good (item_flows facts o)
+      one None j = tt
+      one (Some e) j = by (is_some e.dots)
+        where
+          by : (z : Bool) → AllByRecursion Good (if z then [] else flow (value facts e.value) (Some Elem))
+          by true = tt
+          by false = flow_there lists (value facts e.value) (Some Elem) (value_there tree e.value j) tt
   expr_flow (Expr-F.New word head tails args) k c i =
-      let rest = maybe (bracket_row unmarked nodes.expr) args [] in
+      let rest = maybe (round_row unmarked nodes.expr) args [] in
       arguments_there lists word.start k (map given_by (made_with args)) (made_given args (behind_tails In head [] tails rest i.1)) (value_up_to facts head tails) (tails_up_to tree head [] tails rest i.1 (value_there tree head i.0))
       (subst (λ n. Contains lists.sites (site_at k word.start n)) (sym (places_are (made_with args))) c.0)
   expr_flow (Expr-F.Binary level first others) k c i =
@@ -168,11 +230,23 @@ module _ (tree : Tree) (h : IsInText (ABody tree.body)) where
   stmt_flow (Stmt-F.Return word (Some x) semi) k lt i = flow_there lists (value facts x) (Some (Ret k)) (value_there tree x i.0) lt
   stmt_flow _ k lt i = tt
 
+  slots_at : (ps : ArrowParams Slot) (rest : List Node) → AllByRecursion In (arrow_params_row unmarked nodes.slot ps rest) → AllByRecursion (λ s. In (ASlot s)) (arrow_slots ps)
+  slots_at (shape.Bare x) rest i = (i.0, tt)
+  slots_at (shape.Round b) rest i = placed_have In ASlot (elements b) (elements_have In ASlot b rest i)
+
+  behind_params : (ps : ArrowParams Slot) (rest : List Node) → AllByRecursion In (arrow_params_row unmarked nodes.slot ps rest) → AllByRecursion In rest
+  behind_params (shape.Bare x) rest i = i.1
+  behind_params (shape.Round b) rest i = behind_bracket In ASlot b rest i
+
   params_at : (l : FunctionLayer) → AllByRecursion In (function_row nodes l []) → AllByRecursion (λ s. In (ASlot s)) (params_in l)
-  params_at (Function-F.Keyword word name params b) i = placed_have In ASlot (elements params) (elements_have In ASlot params (each_of nodes.stmt b.body []) i)
+  params_at (Function-F.Keyword word name ps b) i = placed_have In ASlot (elements ps) (elements_have In ASlot ps (each_of nodes.stmt b.body []) i)
+  params_at (Function-F.Arrow ps arrow x) i = slots_at ps (AnExpr x ∷ []) i
+  params_at (Function-F.ArrowBlock ps arrow b) i = slots_at ps (each_of nodes.stmt b.body []) i
 
   name_flow : (l : FunctionLayer) → AllByRecursion IsOfText (tokens_among (function_row items l [])) → (number : ℕ) → HasFunction lists number → AllByRecursion Good (named_flows known number (name_in l))
   name_flow (Function-F.Keyword word None params b) s number lt = tt
+  name_flow (Function-F.Arrow params arrow x) s number lt = tt
+  name_flow (Function-F.ArrowBlock params arrow b) s number lt = tt
   name_flow (Function-F.Keyword word (Some t) params b) s number lt = flow_there lists (Some (Lit number)) (token_vertex known t) lt (token_there tree t s.1.0)
 
   params_flow : (g : FunctionInfo) → Contains (inner tree) g → (i : ℕ) (ss : List Slot) → i + length ss ≤ g.params → AllByRecursion (λ s. In (ASlot s)) ss → AllByRecursion Good (params_flows facts (known.number g.start) i ss)
@@ -184,17 +258,30 @@ module _ (tree : Tree) (h : IsInText (ABody tree.body)) where
       let to_elements : List Flow = if facts.uses_arguments number then flow taken (Some Elem) else [] in
       let target = (out-Slot s).target in
       each_both Good (into facts target taken ++ to_elements) (params_flows facts number (i + 1) ss)
-      (each_both Good (into facts target taken) to_elements (into_there target (parts_of tree (ASlot s) a.0).0 taken there)
+      (each_both Good (into facts target taken) to_elements (into_slot_there s a.0 taken there)
       (pick_some Good (facts.uses_arguments number) (flow taken (Some Elem)) (flow_there lists taken (Some Elem) there tt)))
       (params_flow g m (i + 1) ss (omega (arith, le)) a.1)
+
+  arrow_flow : (l : FunctionLayer) (number : ℕ) → HasFunction lists number → AllByRecursion In (function_row nodes l []) → AllByRecursion Good (arrow_flows facts number l)
+  arrow_flow (Function-F.Keyword word name ps b) number lt i = tt
+  arrow_flow (Function-F.Arrow ps arrow x) number lt i = flow_there lists (value facts x) (Some (Ret number)) (value_there tree x (behind_params ps (AnExpr x ∷ []) i).0) lt
+  arrow_flow (Function-F.ArrowBlock ps arrow b) number lt i = tt
 
   function_flow : (f : Function) → In (AFunction f) → AllByRecursion Good (function_flows facts f)
   function_flow f i =
       let number = known.number (start_of f) in
       let l = out-Function f in
       let g = function_there tree f i in
-      each_both Good (named_flows known number (name_in l)) (params_flows facts number 0 (params_in l)) (name_flow l (own_text tree (AFunction f) i) number (number_below tree f i))
-      (params_flow (info_in l g.0) g.1 0 (params_in l) (omega arith) (params_at l (parts_of tree (AFunction f) i)))
+      let below = number_below tree f i in
+      let named = named_flows known number (name_in l) in
+      let taken = params_flows facts number 0 (params_in l) in
+      let rest = rest_param_flows number l in
+      each_both Good (named ++ taken ++ rest) (arrow_flows facts number l)
+      (each_both Good (named ++ taken) rest
+      (each_both Good named taken (name_flow l (own_text tree (AFunction f) i) number below)
+      (params_flow (info_in l g.0) g.1 0 (params_in l) (omega arith) (params_at l (parts_of tree (AFunction f) i))))
+      (pick_some Good (has_rest l) (flow (Some (Rest number)) (Some Elem)) (flow_there lists (Some (Rest number)) (Some Elem) below tt)))
+      (arrow_flow l number below (parts_of tree (AFunction f) i))
 
   -- CALLS
 
@@ -234,7 +321,10 @@ module _ (tree : Tree) (h : IsInText (ABody tree.body)) where
   own_flow : (n : Node) (k : ℕ) → StandsIn tree n → HasFunction lists k → AllByRecursion Good (own_flows facts n k)
   own_flow (AnExpr x) k w lt = let s = sites_there tree (AnExpr x) w.0 in expr_flow (out-Expr x) s.0 s.1 (parts_of tree (AnExpr x) w.0)
   own_flow (AFunction f) k w lt = function_flow f w.0
-  own_flow (APattern x) k w lt = pattern_flow (out-Pattern x)
+  own_flow (AKey x) k w lt = tt
+  own_flow (APattern x) k w lt = pattern_flow (out-Pattern x) (parts_of tree (APattern x) w.0)
+  own_flow (APatternProperty x) k w lt = pattern_property_flow (out-PatternProperty x) (parts_of tree (APatternProperty x) w.0)
+  own_flow (AProperty x) k w lt = property_flow (out-Property x) (parts_of tree (AProperty x) w.0)
   own_flow (AStmt x) k w lt = stmt_flow (out-Stmt x) k lt (parts_of tree (AStmt x) w.0)
   own_flow (ASlot x) k w lt = slot_flow (out-Slot x).target (out-Slot x).init (parts_of tree (ASlot x) w.0)
   own_flow (ATail head before t) k w lt = tail_flow head before t w

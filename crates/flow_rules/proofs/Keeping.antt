@@ -103,7 +103,7 @@ module _ (tree : Tree) (h : IsInText (ABody tree.body)) where
   -- WHAT IS THERE IS THERE IN ORDER
 
   one_site : (offset part : ℕ) → count_by (is_at offset part) S ≤ 1
-  one_site offset part = let o = h.once offset in let k = counted (own_sites known) (holder_in known) (is_at offset part) (λ (t : Token). t.start == offset) (own_once known offset part) body 0 in omega (arith, o, k)
+  one_site offset part = let o = h.once offset in let k = counted (own_sites known) (holder_in known) (is_at offset part) (λ (t : Token). t.start == offset) (λ n. 0) (own_once known offset part) body 0 in omega (arith, o, k)
 
   at_place : (offset part : ℕ) (s : SiteInfo) → s.offset ≡ offset → s.part ≡ part → is_at offset part s ≡ true
   at_place offset part s e p = λ i. nat_same s.offset offset e i && nat_same s.part part p i

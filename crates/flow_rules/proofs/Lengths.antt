@@ -1,10 +1,11 @@
 -- A text has few sites, requires, notes, numbered expressions and flows.
-use Rattle.std.proofs.Common.{ℕ, ◌+◌, ◌*◌, ◌<◌, ◌≤◌, ◌==◌, Bool, true, false, List, [], ◌∷◌, ◌++◌, map, length, length-append, arith, Option, Some, None, if◌then◌else◌, codes}
+use Rattle.std.proofs.Common.{ℕ, ◌+◌, ◌*◌, ◌<◌, ◌≤◌, ◌==◌, Bool, true, false, List, [], ◌∷◌, ◌++◌, map, length, length-append, arith, refl, is_some, Option, Some, None, if◌then◌else◌, codes}
 use Rattle.std.specs.List.{flat_map, sum_by}
 use Rattle.std.specs.Str.{bytes_eq}
 use Rattle.std.proofs.lemmas.List.{length-map}
 use Rattle.std.proofs.lemmas.List.Sums.{sum_by-cons}
 use Rattle.js_tree.specs.declared.lists.Arm.{Arm}
+use Rattle.js_tree.specs.declared.lists.Element.{Element}
 use Rattle.js_tree.specs.declared.lists.Further.{Further}
 use Rattle.js_tree.specs.declared.lists.Init.{Init}
 use Rattle.js_tree.specs.declared.lists.Listed.{Listed}
@@ -13,20 +14,24 @@ use Rattle.js_tree.specs.declared.lists.Tail.TheVariants as tail
 use Rattle.js_tree.specs.declared.token.Token.{Token}
 use Rattle.js_tree.specs.declared.token_kind.TokenKind.{TokenKind}
 use Rattle.js_tree.specs.declared.tree.Expr.{Expr, out-Expr}
-use Rattle.js_tree.specs.declared.tree.Expr.TheOpen.{Expr-F, Pattern-F, Stmt-F}
+use Rattle.js_tree.specs.declared.tree.Expr.TheOpen.{Expr-F, Function-F, Pattern-F, PatternProperty-F, Property-F, Stmt-F}
 use Rattle.js_tree.specs.declared.tree.Function.{out-Function}
 use Rattle.js_tree.specs.declared.tree.Pattern.{Pattern, out-Pattern}
+use Rattle.js_tree.specs.declared.tree.PatternProperty.{out-PatternProperty}
+use Rattle.js_tree.specs.declared.tree.Property.{out-Property}
 use Rattle.js_tree.specs.declared.tree.Slot.{Slot, out-Slot}
 use Rattle.js_tree.specs.declared.tree.Stmt.{out-Stmt}
 use Rattle.js_tree.specs.declared.tree.Tree.{Tree}
-use Rattle.js_tree.specs.Folds.{ExprLayer, FunctionLayer, PatternLayer, StmtLayer}
+use Rattle.js_tree.specs.Folds.{ExprLayer, FunctionLayer, PatternLayer, PatternPropertyLayer, PropertyLayer, StmtLayer}
 use Rattle.js_tree.specs.Line.{LineItem, given_marks, items}
 use Rattle.js_tree.specs.Operators.{is_binary}
-use Rattle.js_tree.specs.Parts.{Node, AnExpr, AFunction, APattern, AStmt, ASlot, ATail, ABody, nodes, parts, tails_behind}
+use Rattle.js_tree.specs.Parts.{Node, AnExpr, AFunction, AKey, APattern, APatternProperty, AProperty, AStmt, ASlot, ATail, ABody, nodes, parts, tails_behind}
 use Rattle.js_tree.specs.Spelling.Expressions.{expr_row}
 use Rattle.js_tree.specs.Spelling.Functions.{function_row}
-use Rattle.js_tree.specs.Spelling.Patterns.{pattern_row, slot_row}
-use Rattle.js_tree.specs.Spelling.Rows.{arm_row, each_of, further_row}
+use Rattle.js_tree.specs.Spelling.Nodes.{unmarked}
+use Rattle.js_tree.specs.Spelling.Patterns.{pattern_row, pattern_property_row, slot_row}
+use Rattle.js_tree.specs.Spelling.Properties.{property_row}
+use Rattle.js_tree.specs.Spelling.Rows.{arm_row, each_of, further_row, init_row, maybe}
 use Rattle.js_tree.specs.Spelling.Statements.{stmt_row}
 use Rattle.js_tree.specs.Tokens.{IsInText, own_tokens, tokens_among}
 use Rattle.js_tree.proofs.EachNode.{paid}
@@ -35,10 +40,10 @@ use Rattle.js_scopes.specs.declared.binding.Binding.TheVariants as binding
 use Rattle.js_scopes.specs.declared.site.SiteInfo.{SiteInfo}
 use Rattle.js_scopes.specs.Brackets.{elements, placed}
 use Rattle.js_scopes.specs.Calls.{Known, call_sites, first_string, holder_in, is_reflected, is_require, is_require_alone, is_required, last_member, made_with, own_sites, passed_on, sites_in, sites_of_expr}
-use Rattle.js_scopes.specs.Functions.{is_assignment, name_in, params_in, start_of}
+use Rattle.js_scopes.specs.Functions.{has_rest, is_assignment, name_in, params_in, start_of}
 use Rattle.js_scopes.specs.Scopes.{known_of, site_order, sites_of}
 use Rattle.js_scopes.proofs.Few.{shorter}
-use Rattle.js_scopes.proofs.OwnTokens.{arguments_owned, made_owned, params_owned, parts_owned}
+use Rattle.js_scopes.proofs.OwnTokens.{array_tokens, arguments_owned, made_owned, params_owned, parts_owned}
 use Rattle.flow_rules.specs.declared.arguments.Argument.{Argument}
 use Rattle.flow_rules.specs.declared.arguments.Argument.TheVariants as argument
 use Rattle.flow_rules.specs.declared.notes.Standing.{Standing}
@@ -48,7 +53,8 @@ use Rattle.flow_rules.specs.declared.vertex.Vertex.{Vertex}
 use Rattle.flow_rules.specs.declared.vertex.Vertex.TheVariants as vertex
 use Rattle.flow_rules.specs.Arguments.{arguments_in, arguments_meant, arguments_of_expr, arguments_of_name, arguments_of_pattern, own_arguments}
 use Rattle.flow_rules.specs.Calls.{any_put_flows, argument_flows, argument_of, behind_receiver, bound_flows, call_flows, callee_flows, ends_in_member, flow, handed_over, handing_flows, member_flows, more_flows, passed_flows, plain, puts_in, receiver_flows, reflected_flows, tagged_with, taken_flows}
-use Rattle.flow_rules.specs.Flows.{choice_flows, expr_flows, facts_of, flows_in, flows_of, given_flows, into, joined_flow, name_flows, named_flows, note_order, notes_of, operands_flows, own_flows, param_flows, params_flows, pattern_flows, require_order, requires_of, returned_flows, stmt_flows}
+use Rattle.flow_rules.specs.Flows.{arrow_flows, choice_flows, expr_flows, facts_of, flows_in, flows_of, given_flows, into, into_slot, item_flows, joined_flow, name_flows, named_flows, note_order, notes_of, numbered_flows, operands_flows, own_flows, param_flows, params_flows, pattern_flows, pattern_property_flows, property_flows, require_order, requires_of, rest_param_flows, returned_flows, slot_item_flows, stmt_flows}
+use Rattle.flow_rules.specs.Keys.{key_vertex, property_of, shorthand_vertex, taken_vertex}
 use Rattle.flow_rules.specs.Numbered.{numbered_call, numbered_calls, numbered_in_expr, numbered_of, own_numbered}
 use Rattle.flow_rules.specs.Requires.{call_notes, call_requires, expr_notes, name_notes, notes_in, own_notes, own_requires, pattern_notes, requires_in, standing_in, used_notes, written_notes}
 use Rattle.flow_rules.specs.Values.{Facts, OR, choice_mark, is_numbered, joined_vertex, object_value, operator_mark, place, takes_out, token_vertex, value, value_up_to}
@@ -410,8 +416,16 @@ module _ (facts : Facts) where
       let c = length-append all (joined_flow facts mark last) in
       omega (arith, a, b, c)
 
+  item_few : (o : Option (Element Expr)) → length (item_flows facts o) ≤ 1
+  item_few None = omega arith
+  item_few (Some e) = either 1 (is_some e.dots) [] (flow (value facts e.value) (Some vertex.Elem)) (omega arith) (flow_few (value facts e.value) (Some vertex.Elem))
+
   expr_paid : (l : ExprLayer) → length (expr_flows facts l) ≤ 16 * length (expr_tokens l)
   expr_paid (Expr-F.«Expr::Name» t) = let a = name_few t in omega (arith, a)
+  expr_paid (Expr-F.«Expr::Array» xs) =
+      let a = each_few (item_flows facts) item_few (elements xs) in
+      let b = array_tokens items.expr (λ x rest. refl) xs [] in
+      omega (arith, a, b)
   expr_paid (Expr-F.New word head tails args) =
       let given = map (argument_of facts) (made_with args) in
       let to_callee = flow (value_up_to facts head tails) (Some (vertex.Callee word.start 0)) in
@@ -426,9 +440,79 @@ module _ (facts : Facts) where
   expr_paid (Expr-F.Assign target op from) = let a = either 1 (is_assignment op) (into facts target (value facts from)) [] (flow_few (value facts from) (place facts target)) (omega arith) in omega (arith, a)
   expr_paid _ = omega arith
 
-  pattern_paid : (l : PatternLayer) → length (pattern_flows facts.known l) ≤ 16 * length (pattern_tokens l)
-  pattern_paid (Pattern-F.«Pattern::Name» t) = let a = name_few t in omega (arith, a)
-  pattern_paid _ = omega arith
+  into_slot_few : (s : Slot) (from : Option Vertex) → length (into_slot facts s from) ≤ 1
+  into_slot_few s from = flow_few from (place facts (out-Slot s).target)
+
+  slot_item_few : (o : Option (Element Slot)) → length (slot_item_flows facts o) ≤ 1
+  slot_item_few None = omega arith
+  slot_item_few (Some e) = either 1 (is_some e.dots) [] (into_slot facts e.value (Some vertex.Elem)) (omega arith) (into_slot_few e.value (Some vertex.Elem))
+
+  -- names leave one of their flows to the property that they are the key of, too
+  abbrev expr_left : ExprLayer → ℕ
+  expr_left (Expr-F.«Expr::Name» t) = 1
+  expr_left _ = 0
+
+  abbrev pattern_left : PatternLayer → ℕ
+  pattern_left (Pattern-F.«Pattern::Name» t) = 1
+  pattern_left _ = 0
+
+  abbrev left : Node → ℕ
+  left (AnExpr x) = expr_left (out-Expr x)
+  left (APattern p) = pattern_left (out-Pattern p)
+  left (ASlot s) = pattern_left (out-Pattern (out-Slot s).target)
+  left _ = 0
+
+  expr_leaves : (l : ExprLayer) → length (expr_flows facts l) + expr_left l ≤ 16 * length (expr_tokens l)
+  expr_leaves (Expr-F.«Expr::Name» t) = let a = name_few t in omega (arith, a)
+  expr_leaves (Expr-F.This t) = let a = expr_paid (Expr-F.This t) in omega (arith, a)
+  expr_leaves (Expr-F.Literal t) = let a = expr_paid (Expr-F.Literal t) in omega (arith, a)
+  expr_leaves (Expr-F.Template t) = let a = expr_paid (Expr-F.Template t) in omega (arith, a)
+  expr_leaves (Expr-F.«Expr::Paren» begin inner end) = let a = expr_paid (Expr-F.«Expr::Paren» begin inner end) in omega (arith, a)
+  expr_leaves (Expr-F.«Expr::Array» xs) = let a = expr_paid (Expr-F.«Expr::Array» xs) in omega (arith, a)
+  expr_leaves (Expr-F.«Expr::Object» ps) = let a = expr_paid (Expr-F.«Expr::Object» ps) in omega (arith, a)
+  expr_leaves (Expr-F.«Expr::Fun» f) = let a = expr_paid (Expr-F.«Expr::Fun» f) in omega (arith, a)
+  expr_leaves (Expr-F.Chain head tails) = let a = expr_paid (Expr-F.Chain head tails) in omega (arith, a)
+  expr_leaves (Expr-F.New word head tails args) = let a = expr_paid (Expr-F.New word head tails args) in omega (arith, a)
+  expr_leaves (Expr-F.NewTarget word dot target) = let a = expr_paid (Expr-F.NewTarget word dot target) in omega (arith, a)
+  expr_leaves (Expr-F.Postfix target op) = let a = expr_paid (Expr-F.Postfix target op) in omega (arith, a)
+  expr_leaves (Expr-F.Unary op operand) = let a = expr_paid (Expr-F.Unary op operand) in omega (arith, a)
+  expr_leaves (Expr-F.Power base op exponent) = let a = expr_paid (Expr-F.Power base op exponent) in omega (arith, a)
+  expr_leaves (Expr-F.Binary level first others) = let a = expr_paid (Expr-F.Binary level first others) in omega (arith, a)
+  expr_leaves (Expr-F.Cond arms last) = let a = expr_paid (Expr-F.Cond arms last) in omega (arith, a)
+  expr_leaves (Expr-F.Assign target op from) = let a = expr_paid (Expr-F.Assign target op from) in omega (arith, a)
+  expr_leaves (Expr-F.Comma first others) = let a = expr_paid (Expr-F.Comma first others) in omega (arith, a)
+
+  pattern_leaves : (l : PatternLayer) → length (pattern_flows facts l) + pattern_left l ≤ 16 * length (pattern_tokens l)
+  pattern_leaves (Pattern-F.«Pattern::Name» t) = let a = name_few t in omega (arith, a)
+  pattern_leaves (Pattern-F.Member chain) = omega arith
+  pattern_leaves (Pattern-F.«Pattern::Paren» begin inner end) = omega arith
+  pattern_leaves (Pattern-F.«Pattern::Array» slots) =
+      let a = each_few (slot_item_flows facts) slot_item_few (elements slots) in
+      let b = array_tokens items.slot (λ x rest. refl) slots [] in
+      omega (arith, a, b)
+  pattern_leaves (Pattern-F.«Pattern::Object» ps) = omega arith
+
+  shorthand_few : (l : ExprLayer) (v : Option Vertex) → length (flow v (shorthand_vertex l)) ≤ expr_left l
+  shorthand_few (Expr-F.«Expr::Name» t) v = flow_few v (property_of t)
+  shorthand_few _ v = let a = flow_nowhere v in omega (arith, a)
+
+  property_paid : (l : PropertyLayer) → length (property_flows facts l) + 0 ≤ 16 * length (tokens_among (property_row items l [])) + sum_by left (property_row nodes l [])
+  property_paid (Property-F.Pair key colon x) = let a = flow_few (value facts x) (Some (key_vertex key)) in omega (arith, a)
+  property_paid (Property-F.Shorthand x) = let a = shorthand_few (out-Expr x) (value facts x) in let b = sum_by-cons left (AnExpr x) [] in omega (arith, a, b)
+  property_paid (Property-F.Spread dots x) = omega arith
+
+  taken_few : (p : PatternLayer) (to : Option Vertex) → length (flow (taken_vertex p) to) ≤ pattern_left p
+  taken_few (Pattern-F.«Pattern::Name» t) to = flow_few (property_of t) to
+  taken_few (Pattern-F.Member chain) to = omega arith
+  taken_few (Pattern-F.«Pattern::Paren» begin inner end) to = omega arith
+  taken_few (Pattern-F.«Pattern::Array» slots) to = omega arith
+  taken_few (Pattern-F.«Pattern::Object» ps) to = omega arith
+
+  pattern_property_paid : (l : PatternPropertyLayer) → length (pattern_property_flows facts l) + 0 ≤ 16 * length (tokens_among (pattern_property_row items l [])) + sum_by left (pattern_property_row nodes l [])
+  pattern_property_paid (PatternProperty-F.Keyed key colon s) = let a = into_slot_few s (Some (key_vertex key)) in omega (arith, a)
+  pattern_property_paid (PatternProperty-F.Named s) =
+      let a = taken_few (out-Pattern (out-Slot s).target) (place facts (out-Slot s).target) in let b = sum_by-cons left (ASlot s) [] in omega (arith, a, b)
+  pattern_property_paid (PatternProperty-F.Rest dots s) = omega arith
 
   named_few : (number : ℕ) (o : Option Token) → length (named_flows facts.known number o) ≤ 1
   named_few number None = omega arith
@@ -447,13 +531,25 @@ module _ (facts : Facts) where
       let e = length-append (param_flows facts number i s) (params_flows facts number (i + 1) ss) in
       omega (arith, a, b, c, d, e)
 
-  function_paid : (number : ℕ) (l : FunctionLayer) → length (named_flows facts.known number (name_in l) ++ params_flows facts number 0 (params_in l)) ≤ 16 * length (tokens_among (function_row items l []))
+  arrow_few : (number : ℕ) (l : FunctionLayer) → length (arrow_flows facts number l) ≤ 1
+  arrow_few number (Function-F.Keyword word name ps body) = omega arith
+  arrow_few number (Function-F.Arrow ps arrow x) = flow_few (value facts x) (Some (vertex.Ret number))
+  arrow_few number (Function-F.ArrowBlock ps arrow body) = omega arith
+
+  function_paid : (number : ℕ) (l : FunctionLayer) → length (numbered_flows facts number l) ≤ 16 * length (tokens_among (function_row items l []))
   function_paid number l =
+      let named = named_flows facts.known number (name_in l) in
+      let taken = params_flows facts number 0 (params_in l) in
+      let rest = rest_param_flows number l in
       let a = named_few number (name_in l) in
       let b = params_few number 0 (params_in l) in
-      let c = length-append (named_flows facts.known number (name_in l)) (params_flows facts number 0 (params_in l)) in
+      let e = either 1 (has_rest l) (flow (Some (vertex.Rest number)) (Some vertex.Elem)) [] (flow_few (Some (vertex.Rest number)) (Some vertex.Elem)) (omega arith) in
+      let f = arrow_few number l in
+      let c1 = length-append named taken in
+      let c2 = length-append (named ++ taken) rest in
+      let c3 = length-append (named ++ taken ++ rest) (arrow_flows facts number l) in
       let d = params_owned l in
-      omega (arith, a, b, c, d)
+      omega (arith, a, b, c1, c2, c3, d, e, f)
 
   returned_few : (k : ℕ) (o : Option Expr) → length (returned_flows facts k o) ≤ 1
   returned_few k None = omega arith
@@ -467,13 +563,19 @@ module _ (facts : Facts) where
   slot_paid target None = omega arith
   slot_paid target (Some x) = let a = flow_few (value facts x.value) (place facts target) in omega (arith, a)
 
-  flows_paid : (n : Node) (c : ℕ) → Pays (length (own_flows facts n c)) n
-  flows_paid (AnExpr x) c = let a = expr_paid (out-Expr x) in omega (arith, a)
+  flows_paid : (n : Node) (c : ℕ) → length (own_flows facts n c) + left n ≤ 16 * length (own_tokens n) + sum_by left (parts n)
+  flows_paid (AnExpr x) c = let a = expr_leaves (out-Expr x) in omega (arith, a)
   flows_paid (AFunction f) c = let a = function_paid (facts.known.number (start_of f)) (out-Function f) in omega (arith, a)
-  flows_paid (APattern p) c = let a = pattern_paid (out-Pattern p) in omega (arith, a)
+  flows_paid (AKey x) c = omega arith
+  flows_paid (APattern p) c = let a = pattern_leaves (out-Pattern p) in omega (arith, a)
+  flows_paid (APatternProperty p) c = pattern_property_paid (out-PatternProperty p)
+  flows_paid (AProperty p) c = property_paid (out-Property p)
   flows_paid (AStmt x) c = let a = stmt_paid c (out-Stmt x) in omega (arith, a)
-  flows_paid (ASlot s) c = let a = slot_paid (out-Slot s).target (out-Slot s).init in omega (arith, a)
-  flows_paid (ATail head before t) c = tail_paid head before t c
+  flows_paid (ASlot s) c =
+      let a = slot_paid (out-Slot s).target (out-Slot s).init in
+      let b = sum_by-cons left (APattern (out-Slot s).target) (maybe (init_row unmarked nodes.expr) (out-Slot s).init []) in
+      omega (arith, a, b)
+  flows_paid (ATail head before t) c = let a = tail_paid head before t c in omega (arith, a)
   flows_paid (ABody body) c = omega arith
 
 pub few_flows : (tree : Tree) → IsInText (ABody tree.body) → length (flows_of tree) < 4294967296
@@ -481,5 +583,5 @@ few_flows tree h =
     let few = h.few in
     let facts = facts_of tree in
     let a = shorter flow_order (flows_in facts (ABody tree.body) 0) in
-    let b = paid (own_flows facts) (λ n k. Some (holder_in facts.known n k)) (λ n. 0) (flows_paid facts) (ABody tree.body) 0 in
+    let b = paid (own_flows facts) (λ n k. Some (holder_in facts.known n k)) (left facts) (flows_paid facts) (ABody tree.body) 0 in
     omega (arith, few, a, b)

@@ -5,21 +5,28 @@ use Rattle.std.specs.List.Sorted.{IsStrictlySortedBy}
 use Rattle.std.specs.Ordering.{nat_cmp}
 use Rattle.std.specs.declared.cmp.Ordering.TheVariants.{Less}
 use Rattle.js_scopes.specs.Scopes.{function_order}
-use Rattle.std.specs.List.{AllByRecursion, count_by, flat_map}
+use Rattle.std.specs.List.{AllByRecursion, count_by, flat_map, sum_by}
 use Rattle.std.proofs.lemmas.Bool.Decides.{Decides-ltb, nat_tests}
 use Rattle.std.proofs.lemmas.Cmp.{ranked}
 use Rattle.std.proofs.lemmas.List.Elements.{All-contains_itself, recursion_from_All}
-use Rattle.std.proofs.lemmas.List.Sums.{count_by-le-length}
+use Rattle.std.proofs.lemmas.List.Sums.{count_by-le-length, sum_by-cons}
 use Rattle.js_tree.specs.declared.token.Token.{Token}
+use Rattle.js_tree.specs.declared.lists.ArrowParams.{ArrowParams}
+use Rattle.js_tree.specs.declared.lists.ArrowParams.TheVariants as shape
 use Rattle.js_tree.specs.declared.lists.Tail.TheVariants as tail
 use Rattle.js_tree.specs.declared.tree.Expr.{out-Expr}
-use Rattle.js_tree.specs.declared.tree.Expr.TheOpen.{Expr-F, Function-F}
+use Rattle.js_tree.specs.declared.tree.Expr.TheOpen.{Expr-F, Function-F, Pattern-F}
 use Rattle.js_tree.specs.declared.tree.Function.{out-Function}
-use Rattle.js_tree.specs.Folds.{ExprLayer, FunctionLayer}
-use Rattle.js_tree.specs.Line.{items}
-use Rattle.js_tree.specs.Parts.{Node, AnExpr, AFunction, ATail, parts}
+use Rattle.js_tree.specs.declared.tree.Pattern.{out-Pattern}
+use Rattle.js_tree.specs.declared.tree.Slot.{Slot, out-Slot}
+use Rattle.js_tree.specs.Folds.{ExprLayer, FunctionLayer, PatternLayer}
+use Rattle.js_tree.specs.Line.{LineItem, AToken, given_marks, items}
+use Rattle.js_tree.specs.Parts.{Node, AnExpr, AFunction, AKey, APattern, APatternProperty, AProperty, AStmt, ASlot, ATail, ABody, nodes, parts}
 use Rattle.js_tree.specs.Spelling.Expressions.{expr_row}
 use Rattle.js_tree.specs.Spelling.Functions.{function_row}
+use Rattle.js_tree.specs.Spelling.Nodes.{unmarked}
+use Rattle.js_tree.specs.Spelling.Patterns.{pattern_row}
+use Rattle.js_tree.specs.Spelling.Rows.{arrow_params_row, block_row, init_row, maybe}
 use Rattle.js_tree.specs.Tokens.{IsInText, IsOfText, own_tokens, tokens_among, tokens_in}
 use Rattle.js_tree.proofs.GatherLemmas.{each_front}
 use Rattle.js_tree.proofs.TokenLemmas.{tokens_are}
@@ -27,7 +34,7 @@ use Rattle.js_scopes.specs.declared.function.FunctionInfo.{FunctionInfo}
 use Rattle.js_scopes.specs.declared.site.SiteInfo.{SiteInfo}
 use Rattle.js_scopes.specs.Brackets.{elements, placed}
 use Rattle.js_scopes.specs.Calls.{Known, call_sites, is_reflected, is_required, last_member, made_with, own_sites, passed_on, sites_of_expr, unrequired_sites}
-use Rattle.js_scopes.specs.Functions.{info_in, own_functions}
+use Rattle.js_scopes.specs.Functions.{first_token, info_in, name_token, own_functions}
 use Rattle.js_scopes.proofs.Counts.{count_cons, one_if}
 use Rattle.flow_rules.specs.Rules.{IsShort}
 use Rattle.flow_rules.proofs.SortedLemmas.{Some_in}
@@ -195,9 +202,9 @@ expr_once offset part holder (Expr-F.New word head tails args) =
 expr_once offset part holder _ = omega arith
 
 -- a token of its own for each site of a node
-pub own_once : (known : Known) (offset part : ℕ) (n : Node) (c : ℕ) → count_by (is_at offset part) (own_sites known n c) ≤ count_by (λ (t : Token). t.start == offset) (own_tokens n)
-own_once known offset part (AnExpr x) c = expr_once offset part c (out-Expr x)
-own_once known offset part (ATail head before (tail.Call a)) c = by (is_required known head before (elements a))
+pub own_once : (known : Known) (offset part : ℕ) (n : Node) (c : ℕ) → count_by (is_at offset part) (own_sites known n c) + 0 ≤ count_by (λ (t : Token). t.start == offset) (own_tokens n) + sum_by (λ m. 0) (parts n)
+own_once known offset part (AnExpr x) c = let a = expr_once offset part c (out-Expr x) in omega (arith, a)
+own_once known offset part (ATail head before (tail.Call a)) c = let b = by (is_required known head before (elements a)) in omega (arith, b)
   where
     by : (z : Bool) → count_by (is_at offset part) (unrequired_sites c z (last_member before) a.open.start (elements a)) ≤ count_by (λ (t : Token). t.start == offset) (own_tokens (ATail head before (tail.Call a)))
     by true = omega arith
@@ -218,15 +225,80 @@ own_once known offset part _ c = omega arith
 abbrev pub starts_at : ℕ → FunctionInfo → Bool
 starts_at offset f = nat_eq f.start offset
 
-function_once : (offset : ℕ) (l : FunctionLayer) (given : Option Token) → count_by (starts_at offset) (info_in l given ∷ []) ≤ count_by (λ (t : Token). t.start == offset) (tokens_among (function_row items l []))
-function_once offset (Function-F.Keyword word name params body) given =
-    let a = count_cons (starts_at offset) (info_in (Function-F.Keyword word name params body) given) [] in
-    let b = first_counts offset word (tokens_among (function_row items (Function-F.Keyword word name params body) [])) _ refl in
+-- a token counts where it starts
+abbrev counts_at : ℕ → Token → ℕ
+counts_at offset t = one_if (nat_eq t.start offset)
+
+-- what the token of a name that is a pattern leaves to the arrow that begins with it
+abbrev name_left : ℕ → PatternLayer → ℕ
+name_left offset (Pattern-F.«Pattern::Name» t) = counts_at offset t
+name_left offset _ = 0
+
+abbrev slot_left : ℕ → Slot → ℕ
+slot_left offset s = name_left offset (out-Pattern (out-Slot s).target)
+
+abbrev pub names_left : ℕ → Node → ℕ
+names_left offset (APattern p) = name_left offset (out-Pattern p)
+names_left offset (ASlot s) = slot_left offset s
+names_left offset _ = 0
+
+pattern_leaves : (offset : ℕ) (l : PatternLayer) → name_left offset l ≤ count_by (λ (t : Token). t.start == offset) (tokens_among (pattern_row items l []))
+pattern_leaves offset (Pattern-F.«Pattern::Name» t) = first_counts offset t (tokens_among (pattern_row items (Pattern-F.«Pattern::Name» t) [])) _ refl
+pattern_leaves offset (Pattern-F.Member chain) = omega arith
+pattern_leaves offset (Pattern-F.«Pattern::Paren» begin inner end) = omega arith
+pattern_leaves offset (Pattern-F.«Pattern::Array» slots) = omega arith
+pattern_leaves offset (Pattern-F.«Pattern::Object» properties) = omega arith
+
+-- an arrow begins with the name that is its only parameter, or with a token of its own
+begins_once : (offset : ℕ) (ps : ArrowParams Slot) (arrow : Token) (rest : List LineItem) (ns : List Node)
+    → counts_at offset (first_token ps arrow) ≤ count_by (λ (t : Token). t.start == offset) (tokens_among (arrow_params_row given_marks items.slot ps (AToken arrow ∷ rest))) + sum_by (names_left offset) (arrow_params_row unmarked nodes.slot ps ns)
+begins_once offset (shape.Bare x) arrow rest ns = by (out-Pattern (out-Slot x).target) refl
+  where
+    by : (l : PatternLayer) → out-Pattern (out-Slot x).target ≡ l
+        → counts_at offset (name_token (out-Pattern (out-Slot x).target) arrow) ≤ count_by (λ (t : Token). t.start == offset) (tokens_among (AToken arrow ∷ rest)) + sum_by (names_left offset) (ASlot x ∷ ns)
+    by (Pattern-F.«Pattern::Name» t) e =
+        let a = ap (λ l. counts_at offset (name_token l arrow)) e in
+        let b = ap (name_left offset) e in
+        let c = sum_by-cons (names_left offset) (ASlot x) ns in
+        omega (arith, a, b, c)
+    by (Pattern-F.Member chain) e = other (ap (λ l. counts_at offset (name_token l arrow)) e)
+    by (Pattern-F.«Pattern::Paren» begin inner end) e = other (ap (λ l. counts_at offset (name_token l arrow)) e)
+    by (Pattern-F.«Pattern::Array» slots) e = other (ap (λ l. counts_at offset (name_token l arrow)) e)
+    by (Pattern-F.«Pattern::Object» properties) e = other (ap (λ l. counts_at offset (name_token l arrow)) e)
+
+    other : counts_at offset (name_token (out-Pattern (out-Slot x).target) arrow) ≡ counts_at offset arrow
+        → counts_at offset (name_token (out-Pattern (out-Slot x).target) arrow) ≤ count_by (λ (t : Token). t.start == offset) (tokens_among (AToken arrow ∷ rest)) + sum_by (names_left offset) (ASlot x ∷ ns)
+    other e = let a = first_counts offset arrow (tokens_among (AToken arrow ∷ rest)) _ refl in omega (arith, e, a)
+begins_once offset (shape.Round b) arrow rest ns =
+    let a = first_counts offset b.«open» (tokens_among (arrow_params_row given_marks items.slot (shape.Round b) (AToken arrow ∷ rest))) _ refl in omega (arith, a)
+
+function_once : (offset : ℕ) (l : FunctionLayer) (given : Option Token)
+    → count_by (starts_at offset) (info_in l given ∷ []) + 0 ≤ count_by (λ (t : Token). t.start == offset) (tokens_among (function_row items l [])) + sum_by (names_left offset) (function_row nodes l [])
+function_once offset (Function-F.Keyword word name ps body) given =
+    let a = count_cons (starts_at offset) (info_in (Function-F.Keyword word name ps body) given) [] in
+    let b = first_counts offset word (tokens_among (function_row items (Function-F.Keyword word name ps body) [])) _ refl in
+    omega (arith, a, b)
+function_once offset (Function-F.Arrow ps arrow value) given =
+    let a = count_cons (starts_at offset) (info_in (Function-F.Arrow ps arrow value) given) [] in
+    let b = begins_once offset ps arrow (items.expr value []) (nodes.expr value []) in
+    omega (arith, a, b)
+function_once offset (Function-F.ArrowBlock ps arrow body) given =
+    let a = count_cons (starts_at offset) (info_in (Function-F.ArrowBlock ps arrow body) given) [] in
+    let b = begins_once offset ps arrow (block_row given_marks items.stmt body []) (block_row unmarked nodes.stmt body []) in
     omega (arith, a, b)
 
-pub functions_once : (offset : ℕ) (n : Node) (given : Option Token) → count_by (starts_at offset) (own_functions n given) ≤ count_by (λ (t : Token). t.start == offset) (own_tokens n)
+pub functions_once : (offset : ℕ) (n : Node) (given : Option Token)
+    → count_by (starts_at offset) (own_functions n given) + names_left offset n ≤ count_by (λ (t : Token). t.start == offset) (own_tokens n) + sum_by (names_left offset) (parts n)
 functions_once offset (AFunction f) given = function_once offset (out-Function f) given
-functions_once offset _ given = omega arith
+functions_once offset (APattern p) given = let a = pattern_leaves offset (out-Pattern p) in omega (arith, a)
+functions_once offset (ASlot s) given = let a = sum_by-cons (names_left offset) (APattern (out-Slot s).target) (maybe (init_row unmarked nodes.expr) (out-Slot s).init []) in omega (arith, a)
+functions_once offset (AnExpr x) given = omega arith
+functions_once offset (AKey x) given = omega arith
+functions_once offset (APatternProperty x) given = omega arith
+functions_once offset (AProperty x) given = omega arith
+functions_once offset (AStmt x) given = omega arith
+functions_once offset (ATail head before t) given = omega arith
+functions_once offset (ABody body) given = omega arith
 
 pub nat_same : (a b : ℕ) → a ≡ b → nat_eq a b ≡ true
 nat_same a b e = grind (arith, nat_tests, e)

@@ -5,6 +5,7 @@ use Rattle.std.specs.Option.{unwrap_or}
 use Rattle.std.specs.Prelude.{Contains}
 use Rattle.std.specs.Str.{bytes_eq}
 use Rattle.js_tree.specs.declared.lists.Bracket.{Bracket}
+use Rattle.js_tree.specs.declared.lists.Element.{Element}
 use Rattle.js_tree.specs.declared.lists.Further.{Further}
 use Rattle.js_tree.specs.declared.lists.Tail.TheVariants as tail
 use Rattle.js_tree.specs.declared.lists.Tail.{Tail}
@@ -13,19 +14,23 @@ use Rattle.js_tree.specs.declared.token_kind.TokenKind.TheVariants as kind
 use Rattle.js_tree.specs.declared.tree.Expr.TheOpen.{Expr-F, Pattern-F, Function-F, Stmt-F}
 use Rattle.js_tree.specs.declared.tree.Expr.{Expr, out-Expr}
 use Rattle.js_tree.specs.declared.tree.Function.{out-Function}
+use Rattle.js_tree.specs.declared.tree.Key.{out-Key}
 use Rattle.js_tree.specs.declared.tree.Pattern.{Pattern, out-Pattern}
+use Rattle.js_tree.specs.declared.tree.PatternProperty.{out-PatternProperty}
+use Rattle.js_tree.specs.declared.tree.Property.{out-Property}
 use Rattle.js_tree.specs.declared.tree.Slot.{out-Slot}
 use Rattle.js_tree.specs.declared.tree.Stmt.{out-Stmt}
 use Rattle.js_tree.specs.declared.tree.Tree.{Tree}
-use Rattle.js_tree.specs.Folds.{ExprLayer, PatternLayer, FunctionLayer, SlotLayer, StmtLayer}
+use Rattle.js_tree.specs.Folds.{ExprLayer, KeyLayer, PatternLayer, PatternPropertyLayer, PropertyLayer, FunctionLayer, SlotLayer, StmtLayer}
 use Rattle.js_tree.specs.Line.{items}
 use Rattle.js_tree.specs.Operators.{is_binary}
-use Rattle.js_tree.specs.Parts.{Node, AnExpr, AFunction, APattern, AStmt, ASlot, ATail, ABody, folded, nodes, parts, tails_behind}
+use Rattle.js_tree.specs.Parts.{Node, AnExpr, AFunction, AKey, APattern, APatternProperty, AProperty, AStmt, ASlot, ATail, ABody, folded, nodes, parts, tails_behind}
 use Rattle.js_tree.specs.Spelling.Expressions.{expr_row}
 use Rattle.js_tree.specs.Spelling.Functions.{function_row}
 use Rattle.js_tree.specs.Spelling.Nodes.{unmarked}
-use Rattle.js_tree.specs.Spelling.Patterns.{pattern_row, slot_row}
-use Rattle.js_tree.specs.Spelling.Rows.{each_of, further_row, arm_row, bracket_row, init_row, maybe}
+use Rattle.js_tree.specs.Spelling.Patterns.{pattern_row, pattern_property_row, slot_row}
+use Rattle.js_tree.specs.Spelling.Properties.{key_row, property_row}
+use Rattle.js_tree.specs.Spelling.Rows.{each_of, further_row, arm_row, round_row, init_row, maybe}
 use Rattle.js_tree.specs.Spelling.Statements.{stmt_row}
 use Rattle.js_tree.specs.TokenKinds.{is}
 use Rattle.js_tree.specs.Tokens.{IsOfText, tokens_among, IsInText}
@@ -49,7 +54,7 @@ use Rattle.flow_rules.specs.Values.{AND, Facts, OR, any_member_vertex, choice_ma
 use Rattle.flow_rules.proofs.CallRules.{IsNamedIfAny, require_there, result_there, site_there}
 use Rattle.flow_rules.proofs.NodesOfTree.{IsNodeOf, body_in, found, in_text, number_below, own_text, parts_of, requires_there, sites_there}
 use Rattle.flow_rules.proofs.Ones.{both_true, short}
-use Rattle.flow_rules.proofs.RowItems.{bracket_has, one_has, row_has, template_has}
+use Rattle.flow_rules.proofs.RowItems.{array_has, arrow_params_has, bracket_has, object_has, one_has, row_has, template_has}
 use Rattle.flow_rules.proofs.ShortNames.{member_short}
 use Rattle.flow_rules.proofs.ValueLemmas.{up_to_last, front_is}
 use Rattle.flow_rules.proofs.ValueTexts.{IsShortIfAny}
@@ -95,7 +100,7 @@ module _ (tree : Tree) where
 
   -- CALLS
 
-  module _ (head : Expr) (before : List (Tail Expr)) (a : Bracket Expr) (i : In (ATail head before (tail.Call a))) where
+  module _ (head : Expr) (before : List (Tail Expr)) (a : Bracket (Element Expr)) (i : In (ATail head before (tail.Call a))) where
     abbrev alone : Bool
     alone = is_require_alone known head before
 
@@ -182,6 +187,8 @@ module _ (tree : Tree) where
   pattern_valued (Pattern-F.«Pattern::Name» t) v s = token_there t s.0
   pattern_valued (Pattern-F.Member chain) v s = v.0
   pattern_valued (Pattern-F.«Pattern::Paren» begin inner end) v s = v.0
+  pattern_valued (Pattern-F.«Pattern::Array» slots) v s = tt
+  pattern_valued (Pattern-F.«Pattern::Object» properties) v s = tt
 
   abbrev Valued : Node → Type 0
   Valued n = In n → Any (folded (value_step facts) n)
@@ -197,6 +204,9 @@ module _ (tree : Tree) where
       by (AnExpr x) v i = let s = sites_there tree (AnExpr x) i in expr_valued (out-Expr x) s.0 s.1 v (parts_of tree (AnExpr x) i) (own_text tree (AnExpr x) i)
       by (AFunction f) v i = number_below tree f i
       by (APattern p) v i = pattern_valued (out-Pattern p) v (own_text tree (APattern p) i)
+      by (AKey x) v i = tt
+      by (APatternProperty x) v i = tt
+      by (AProperty x) v i = tt
       by (AStmt x) v i = tt
       by (ASlot x) v i = tt
       by (ATail head before t) v i = tt
@@ -228,7 +238,7 @@ module _ (tree : Tree) where
   expr_has (Expr-F.Chain head tails) i = let v = value_there head i.0 in (tt, tails_there head [] tails [] i.1 v v tt)
   expr_has (Expr-F.New word head tails args) i =
       let v = value_there head i.0 in
-      (tt, tails_there head [] tails (maybe (bracket_row unmarked nodes.expr) args []) i.1 v v (one_has Behind (bracket_row unmarked nodes.expr) (λ b more r. bracket_has Behind AnExpr (λ x. tt) b more r) args [] tt))
+      (tt, tails_there head [] tails (maybe (round_row unmarked nodes.expr) args []) i.1 v v (one_has Behind (round_row unmarked nodes.expr) (λ b more r. bracket_has Behind AnExpr (λ x. tt) b more r) args [] tt))
   expr_has (Expr-F.Template t) i = template_has Behind (λ x. tt) t.parts [] tt
   expr_has (Expr-F.Binary level first others) i = (tt, row_has Behind (further_row unmarked nodes.expr (is_binary level)) (λ x more r. (tt, r)) others [] tt)
   expr_has (Expr-F.Cond arms last) i = row_has Behind (arm_row unmarked nodes.expr) (λ x more r. (tt, (tt, r))) arms (AnExpr last ∷ []) (tt, tt)
@@ -238,6 +248,8 @@ module _ (tree : Tree) where
   expr_has (Expr-F.Literal t) i = tt
   expr_has (Expr-F.NewTarget word dot target) i = tt
   expr_has (Expr-F.«Expr::Paren» begin inner end) i = (tt, tt)
+  expr_has (Expr-F.«Expr::Array» items) i = array_has Behind AnExpr (λ x. tt) items [] tt
+  expr_has (Expr-F.«Expr::Object» ps) i = object_has Behind AProperty (λ x. tt) ps [] tt
   expr_has (Expr-F.«Expr::Fun» f) i = (tt, tt)
   expr_has (Expr-F.Postfix target op) i = (tt, tt)
   expr_has (Expr-F.Unary op operand) i = (tt, tt)
@@ -247,11 +259,29 @@ module _ (tree : Tree) where
   -- no other node has
   function_has : (l : FunctionLayer) → AllByRecursion Behind (function_row nodes l [])
   function_has (Function-F.Keyword word name params b) = bracket_has Behind ASlot (λ x. tt) params (each_of nodes.stmt b.body []) (row_has Behind nodes.stmt (λ x more r. (tt, r)) b.body [] tt)
+  function_has (Function-F.Arrow params arrow x) = arrow_params_has Behind ASlot (λ y. tt) params (AnExpr x ∷ []) (tt, tt)
+  function_has (Function-F.ArrowBlock params arrow b) = arrow_params_has Behind ASlot (λ x. tt) params (each_of nodes.stmt b.body []) (row_has Behind nodes.stmt (λ x more r. (tt, r)) b.body [] tt)
+
+  key_has : (l : KeyLayer) → AllByRecursion Behind (key_row nodes l [])
+  key_has (Key-F.Fixed t) = tt
+  key_has (Key-F.Computed begin x end) = (tt, tt)
 
   pattern_has : (l : PatternLayer) → AllByRecursion Behind (pattern_row nodes l [])
   pattern_has (Pattern-F.«Pattern::Name» t) = tt
   pattern_has (Pattern-F.Member chain) = (tt, tt)
   pattern_has (Pattern-F.«Pattern::Paren» begin inner end) = (tt, tt)
+  pattern_has (Pattern-F.«Pattern::Array» slots) = array_has Behind ASlot (λ x. tt) slots [] tt
+  pattern_has (Pattern-F.«Pattern::Object» ps) = object_has Behind APatternProperty (λ x. tt) ps [] tt
+
+  pattern_property_has : (l : PatternPropertyLayer) → AllByRecursion Behind (pattern_property_row nodes l [])
+  pattern_property_has (PatternProperty-F.Keyed key colon s) = (tt, (tt, tt))
+  pattern_property_has (PatternProperty-F.Named s) = (tt, tt)
+  pattern_property_has (PatternProperty-F.Rest dots s) = (tt, tt)
+
+  property_has : (l : PropertyLayer) → AllByRecursion Behind (property_row nodes l [])
+  property_has (Property-F.Pair key colon x) = (tt, (tt, tt))
+  property_has (Property-F.Shorthand x) = (tt, tt)
+  property_has (Property-F.Spread dots x) = (tt, tt)
 
   stmt_has : (l : StmtLayer) → AllByRecursion Behind (stmt_row nodes l [])
   stmt_has (Stmt-F.Vars word first others semi) = (tt, row_has Behind (further_row unmarked nodes.slot (is kind.Comma)) (λ x more r. (tt, r)) others [] tt)
@@ -271,7 +301,10 @@ module _ (tree : Tree) where
   parts_have : (n : Node) → In n → AllByRecursion Behind (parts n)
   parts_have (AnExpr x) i = expr_has (out-Expr x) (parts_of tree (AnExpr x) i)
   parts_have (AFunction f) i = function_has (out-Function f)
+  parts_have (AKey x) i = key_has (out-Key x)
   parts_have (APattern x) i = pattern_has (out-Pattern x)
+  parts_have (APatternProperty x) i = pattern_property_has (out-PatternProperty x)
+  parts_have (AProperty x) i = property_has (out-Property x)
   parts_have (AStmt x) i = stmt_has (out-Stmt x)
   parts_have (ASlot x) i = slot_has (out-Slot x)
   parts_have (ATail head before t) i = tail_has head before t

@@ -1,24 +1,29 @@
 -- What a tree says of its values: what each kind of node gives by itself.
-use Rattle.std.specs.Prelude.{ℕ, ◌+◌, ◌==◌, List, [], ◌∷◌, ◌++◌, Option, Some, None, if◌then◌else◌}
+use Rattle.std.specs.Prelude.{ℕ, ◌+◌, ◌==◌, List, [], ◌∷◌, ◌++◌, Option, Some, None, is_some, if◌then◌else◌}
 use Rattle.std.specs.List.{flat_map, list_any}
 use Rattle.std.specs.Ordering.{nat_cmp, on}
 use Rattle.std.specs.declared.cmp.Ordering.{Ordering}
 use Rattle.js_tree.specs.declared.lists.Arm.{Arm}
+use Rattle.js_tree.specs.declared.lists.Element.{Element}
 use Rattle.js_tree.specs.declared.lists.Further.{Further}
 use Rattle.js_tree.specs.declared.lists.Init.{Init}
 use Rattle.js_tree.specs.declared.token.Token.{Token}
 use Rattle.js_tree.specs.declared.tree.Expr.{Expr, out-Expr}
-use Rattle.js_tree.specs.declared.tree.Expr.TheOpen.{Expr-F, Pattern-F, Stmt-F}
+use Rattle.js_tree.specs.declared.tree.Expr.TheOpen.{Expr-F, Function-F, Pattern-F, PatternProperty-F, Property-F, Stmt-F}
 use Rattle.js_tree.specs.declared.tree.Function.{Function, out-Function}
+use Rattle.js_tree.specs.declared.tree.Key.{Key}
 use Rattle.js_tree.specs.declared.tree.Pattern.{Pattern, out-Pattern}
+use Rattle.js_tree.specs.declared.tree.PatternProperty.{out-PatternProperty}
+use Rattle.js_tree.specs.declared.tree.Property.{out-Property}
 use Rattle.js_tree.specs.declared.tree.Slot.{Slot, out-Slot}
 use Rattle.js_tree.specs.declared.tree.Stmt.{out-Stmt}
 use Rattle.js_tree.specs.declared.tree.Tree.{Tree}
-use Rattle.js_tree.specs.Folds.{ExprLayer, PatternLayer, SlotLayer, StmtLayer}
-use Rattle.js_tree.specs.Parts.{Node, AnExpr, AFunction, APattern, AStmt, ASlot, ATail, ABody, gathered}
+use Rattle.js_tree.specs.Folds.{ExprLayer, FunctionLayer, PatternLayer, PatternPropertyLayer, PropertyLayer, SlotLayer, StmtLayer}
+use Rattle.js_tree.specs.Parts.{Node, AnExpr, AFunction, AKey, APattern, APatternProperty, AProperty, AStmt, ASlot, ATail, ABody, gathered}
 use Rattle.jam_base.specs.Ascending.{ascending}
+use Rattle.js_scopes.specs.Brackets.{elements}
 use Rattle.js_scopes.specs.Calls.{Known, holder_in, made_with}
-use Rattle.js_scopes.specs.Functions.{is_assignment, name_in, params_in, start_of}
+use Rattle.js_scopes.specs.Functions.{has_rest, is_assignment, name_in, params_in, start_of}
 use Rattle.js_scopes.specs.Scopes.{functions_of, known_of, sites_of}
 use Rattle.flow_rules.specs.declared.module.Flow.{Flow}
 use Rattle.flow_rules.specs.declared.module.ModuleNote.{ModuleNote}
@@ -29,6 +34,7 @@ use Rattle.flow_rules.specs.declared.vertex.Vertex.TheVariants as vertex
 use Rattle.flow_rules.specs.Arguments.{arguments_in, arguments_of_name}
 use Rattle.flow_rules.specs.Calls.{flow, made_flows, tail_flows}
 use Rattle.flow_rules.specs.Constraints.{ModuleConstraints}
+use Rattle.flow_rules.specs.Keys.{key_vertex, shorthand_vertex, taken_vertex}
 use Rattle.flow_rules.specs.Numbered.{numbered_of, place_in}
 use Rattle.flow_rules.specs.Requires.{notes_in, requires_in}
 use Rattle.flow_rules.specs.Values.{Facts, OR, choice_mark, joined_vertex, operator_mark, place, token_vertex, value}
@@ -39,6 +45,10 @@ use Rattle.flow_rules.specs.Vertices.{flow_order}
 -- values that come to a pattern
 abbrev pub into : Facts → Pattern → Option Vertex → List Flow
 into facts p from = flow from (place facts p)
+
+-- values that come to the pattern of a slot
+abbrev pub into_slot : Facts → Slot → Option Vertex → List Flow
+into_slot facts s from = into facts (out-Slot s).target from
 
 -- a name that means the arguments of a function: what that takes past its parameters is an element
 abbrev pub rest_flows : List ℕ → List Flow
@@ -66,19 +76,66 @@ operands_flows facts level first others =
 abbrev pub choice_flows : Facts → List (Arm Expr) → Expr → List Flow
 choice_flows facts arms last = flat_map (λ x. joined_flow facts (choice_mark arms) x.value) arms ++ joined_flow facts (choice_mark arms) last
 
--- Name: its flows. New: those of its call. Binary with `||`: its operands come to it. Cond: so does the value of each arm, and the last. Assign: from
+-- ARRAYS AND OBJECTS
+
+-- an item of an array is an element; a spread is nothing new, and a hole nothing
+abbrev pub element_flows : Facts → Element Expr → List Flow
+element_flows facts e = if is_some e.dots then [] else flow (value facts e.value) (Some vertex.Elem)
+
+abbrev pub item_flows : Facts → Option (Element Expr) → List Flow
+item_flows facts None = []
+item_flows facts (Some e) = element_flows facts e
+
+-- the value of a property comes to it
+abbrev pub pair_flows : Facts → Key → Expr → List Flow
+pair_flows facts key x = flow (value facts x) (Some (key_vertex key))
+
+abbrev pub shorthand_flows : Facts → Expr → List Flow
+shorthand_flows facts x = flow (value facts x) (shorthand_vertex (out-Expr x))
+
+abbrev pub property_flows : Facts → PropertyLayer → List Flow
+property_flows facts (Property-F.Pair key colon x) = pair_flows facts key x
+property_flows facts (Property-F.Shorthand x) = shorthand_flows facts x
+property_flows facts (Property-F.Spread dots x) = []
+
+-- Name: its flows. Array: its items are elements. New: those of its call. Binary with `||`: its operands come to it. Cond: so does the value of each arm, and the last. Assign: from
 -- its right side to its target
 abbrev pub expr_flows : Facts → ExprLayer → List Flow
 expr_flows facts (Expr-F.«Expr::Name» t) = name_flows facts.known t
+expr_flows facts (Expr-F.«Expr::Array» items) = flat_map (item_flows facts) (elements items)
 expr_flows facts (Expr-F.New word head tails args) = made_flows facts head tails word.start (made_with args)
 expr_flows facts (Expr-F.Binary level first others) = operands_flows facts level first others
 expr_flows facts (Expr-F.Cond arms last) = choice_flows facts arms last
 expr_flows facts (Expr-F.Assign target op from) = assigned_flows facts target op from
 expr_flows facts _ = []
 
-abbrev pub pattern_flows : Known → PatternLayer → List Flow
-pattern_flows known (Pattern-F.«Pattern::Name» t) = name_flows known t
-pattern_flows known _ = []
+-- PATTERNS
+
+-- an element comes to a slot of an array's pattern; to the rest and to a hole nothing
+abbrev pub slot_element_flows : Facts → Element Slot → List Flow
+slot_element_flows facts e = if is_some e.dots then [] else into_slot facts e.value (Some vertex.Elem)
+
+abbrev pub slot_item_flows : Facts → Option (Element Slot) → List Flow
+slot_item_flows facts None = []
+slot_item_flows facts (Some e) = slot_element_flows facts e
+
+-- the values of a property come to its slot; to the rest nothing
+abbrev pub keyed_flows : Facts → Key → Slot → List Flow
+keyed_flows facts key s = into_slot facts s (Some (key_vertex key))
+
+abbrev pub taken_flows : Facts → Slot → List Flow
+taken_flows facts s = into_slot facts s (taken_vertex (out-Pattern (out-Slot s).target))
+
+abbrev pub pattern_property_flows : Facts → PatternPropertyLayer → List Flow
+pattern_property_flows facts (PatternProperty-F.Keyed key colon s) = keyed_flows facts key s
+pattern_property_flows facts (PatternProperty-F.Named s) = taken_flows facts s
+pattern_property_flows facts (PatternProperty-F.Rest dots s) = []
+
+-- Name: its flows. Array: elements come to its slots
+abbrev pub pattern_flows : Facts → PatternLayer → List Flow
+pattern_flows facts (Pattern-F.«Pattern::Name» t) = name_flows facts.known t
+pattern_flows facts (Pattern-F.«Pattern::Array» slots) = flat_map (slot_item_flows facts) (elements slots)
+pattern_flows facts _ = []
 
 -- FUNCTIONS
 
@@ -90,7 +147,7 @@ named_flows known number (Some t) = flow (Some (vertex.Lit number)) (token_verte
 -- what a parameter takes comes to its pattern, and is an element where the function's arguments are used
 abbrev pub param_flows : Facts → ℕ → ℕ → Slot → List Flow
 param_flows facts number i s =
-    into facts (out-Slot s).target (Some (vertex.Param number i))
+    into_slot facts s (Some (vertex.Param number i))
     ++ (if facts.uses_arguments number then flow (Some (vertex.Param number i)) (Some vertex.Elem) else [])
 
 -- the same of all parameters, from place i on
@@ -98,10 +155,22 @@ abbrev pub params_flows : Facts → ℕ → ℕ → List Slot → List Flow
 params_flows facts number i [] = []
 params_flows facts number i (s ∷ ss) = param_flows facts number i s ++ params_flows facts number (i + 1) ss
 
+-- what a rest parameter takes is an element
+abbrev pub rest_param_flows : ℕ → FunctionLayer → List Flow
+rest_param_flows number l = if has_rest l then flow (Some (vertex.Rest number)) (Some vertex.Elem) else []
+
+-- what an arrow gives comes to what it returns
+abbrev pub arrow_flows : Facts → ℕ → FunctionLayer → List Flow
+arrow_flows facts number (Function-F.Arrow ps arrow x) = flow (value facts x) (Some (vertex.Ret number))
+arrow_flows facts number _ = []
+
+-- the flows of a function with this number
+abbrev pub numbered_flows : Facts → ℕ → FunctionLayer → List Flow
+numbered_flows facts number l =
+    named_flows facts.known number (name_in l) ++ params_flows facts number 0 (params_in l) ++ rest_param_flows number l ++ arrow_flows facts number l
+
 abbrev pub function_flows : Facts → Function → List Flow
-function_flows facts f =
-    named_flows facts.known (facts.known.number (start_of f)) (name_in (out-Function f))
-    ++ params_flows facts (facts.known.number (start_of f)) 0 (params_in (out-Function f))
+function_flows facts f = numbered_flows facts (facts.known.number (start_of f)) (out-Function f)
 
 -- SLOTS AND STATEMENTS
 
@@ -127,7 +196,10 @@ stmt_flows facts holder _ = []
 abbrev pub own_flows : Facts → Node → ℕ → List Flow
 own_flows facts (AnExpr x) holder = expr_flows facts (out-Expr x)
 own_flows facts (AFunction f) holder = function_flows facts f
-own_flows facts (APattern p) holder = pattern_flows facts.known (out-Pattern p)
+own_flows facts (AKey k) holder = []
+own_flows facts (APattern p) holder = pattern_flows facts (out-Pattern p)
+own_flows facts (APatternProperty p) holder = pattern_property_flows facts (out-PatternProperty p)
+own_flows facts (AProperty p) holder = property_flows facts (out-Property p)
 own_flows facts (AStmt x) holder = stmt_flows facts holder (out-Stmt x)
 own_flows facts (ASlot s) holder = slot_flows facts (out-Slot s)
 own_flows facts (ATail head before t) holder = tail_flows facts head before t

@@ -159,9 +159,12 @@ value_in facts (Expr-F.Assign target op value) values = assigned_value op (last_
 value_in facts (Expr-F.Comma first others) values = last_value values
 value_in facts _ values = None
 
--- where those of a pattern stand, to which values come. Name: at its vertex. Member, Paren: where those of what is in it stand
+-- where those of a pattern stand, to which values come. Name: at its vertex. Member, Paren: where those of what is in it stand. Array, Object: nowhere,
+-- since what comes to their slots doesn't hang on these values
 abbrev pub place_in_pattern : Facts → PatternLayer → List (Option Vertex) → Option Vertex
 place_in_pattern facts (Pattern-F.«Pattern::Name» t) values = token_vertex facts.known t
+place_in_pattern facts (Pattern-F.«Pattern::Array» slots) values = None
+place_in_pattern facts (Pattern-F.«Pattern::Object» properties) values = None
 place_in_pattern facts _ values = last_value values
 
 -- where the values of a node stand, by where those of its parts do

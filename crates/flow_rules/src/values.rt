@@ -13,7 +13,7 @@ use jam_base::{OutOfMemory, Text};
 use js_scopes::{
     Binding, Known, WrapperName, is_assignment, is_reflected, last_member, member_in, start_of,
 };
-use js_tree::{Arm, Bracket, Expr, Function, Further, Pattern, Tail, Token};
+use js_tree::{Arm, Bracket, Element, Expr, Function, Further, Pattern, Tail, Token};
 use sqlite_items::Boxed;
 use std::alloc::Global;
 
@@ -167,6 +167,8 @@ pub(crate) fn place_of(
             inner,
             close: _,
         } => place_of(alloc, facts, inner.get()),
+        Pattern::Array { slots: _ } => Ok(None),
+        Pattern::Object { properties: _ } => Ok(None),
     }
 }
 
@@ -278,7 +280,7 @@ fn call_vertex(
     facts: &Facts<'_>,
     head: &Expr,
     before: &[Tail<Boxed<Expr>>],
-    arguments: &Bracket<Boxed<Expr>>,
+    arguments: &Bracket<Element<Boxed<Expr>>>,
 ) -> Result<Vertex, OutOfMemory>
     ensures { IfOk result (λ v. v ≡ values.call_vertex (facts_in facts.now) (calls.is_required (known_in facts.now.known.now) head.now before.now (elements arguments.now)) (calls.last_member before.now) arguments.now.open.start) }
 {

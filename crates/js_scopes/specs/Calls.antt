@@ -109,7 +109,7 @@ sites_of_tail known holder head before (tail.Template t) = site_at holder t.head
 sites_of_tail known holder head before _ = []
 
 -- the arguments of `new`, where there are any
-abbrev pub made_with : Option (Bracket Expr) → List (Element Expr)
+abbrev pub made_with : Option (Bracket (Element Expr)) → List (Element Expr)
 made_with None = []
 made_with (Some a) = elements a
 

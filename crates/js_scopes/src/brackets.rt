@@ -1,16 +1,18 @@
 //! Parameters and arguments: lists in brackets.
 ghost use Rattle.std.specs.Prelude.{◌≡◌, ◌<◌, ◌++◌, ◌∷◌, [], length, map, IfOk, OnOk};
 ghost use Rattle.js_tree.specs.declared.tree.Function.{out-Function};
+ghost use Rattle.js_scopes.specs.Brackets as brackets;
 ghost use Rattle.js_scopes.specs.Brackets.{elements, listed, placed};
+ghost use Rattle.js_scopes.specs.Functions as functions;
 ghost use Rattle.js_scopes.specs.Functions.{params_in};
 
 use jam_base::OutOfMemory;
-use js_tree::{Bracket, Element, Expr, Function, Slot};
+use js_tree::{ArrowParams, Bracket, Element, Expr, Function, Slot};
 use sqlite_items::Boxed;
 use std::alloc::Global;
 
 /// How many of the arguments have a place: those in front of the first that has `...`.
-pub fn count_placed(arguments: &Bracket<Boxed<Expr>>) -> u32
+pub fn count_placed(arguments: &Bracket<Element<Boxed<Expr>>>) -> u32
     requires { length (elements arguments.now) < 4294967296 }
     ensures { result ≡ length (placed (elements arguments.now)) }
 {
@@ -45,11 +47,39 @@ pub fn params_of(alloc: Global, function: &Function) -> Result<Vec<&Slot>, OutOf
             params,
             body: _,
         } => placed_in(alloc, params),
+        Function::Arrow {
+            params,
+            arrow: _,
+            value: _,
+        } => arrow_slots(alloc, params),
+        Function::ArrowBlock {
+            params,
+            arrow: _,
+            body: _,
+        } => arrow_slots(alloc, params),
     }
 }
 
+// Those of an arrow.
+fn arrow_slots(alloc: Global, params: &ArrowParams<Slot>) -> Result<Vec<&Slot>, OutOfMemory>
+    ensures { IfOk result (λ made. map (λ s. s.now) made.items ≡ functions.arrow_slots params.now) }
+{
+    match params {
+        ArrowParams::Bare(slot) => lone(alloc, slot),
+        ArrowParams::Round(bracket) => placed_in(alloc, bracket),
+    }
+}
+
+fn lone(alloc: Global, slot: &Slot) -> Result<Vec<&Slot>, OutOfMemory>
+    ensures { IfOk result (λ made. map (λ s. s.now) made.items ≡ slot.now ∷ []) }
+{
+    let mut found = Vec::new(alloc);
+    found.push(slot)?;
+    Ok(found)
+}
+
 // The slots in brackets that have a place.
-fn placed_in(alloc: Global, params: &Bracket<Slot>) -> Result<Vec<&Slot>, OutOfMemory>
+fn placed_in(alloc: Global, params: &Bracket<Element<Slot>>) -> Result<Vec<&Slot>, OutOfMemory>
     ensures { IfOk result (λ made. map (λ s. s.now) made.items ≡ placed (elements params.now)) }
 {
     let mut found = Vec::new(alloc);
@@ -83,4 +113,52 @@ fn push_placed<'t>(element: &'t Element<Slot>, found: &mut Vec<&'t Slot>) -> Res
         found.push(&element.value)?;
     }
     Ok(())
+}
+
+/// Whether a function has a rest parameter.
+pub fn has_rest(function: &Function) -> bool
+    ensures { result ≡ functions.has_rest (out-Function function.now) }
+{
+    match function {
+        Function::Keyword {
+            word: _,
+            name: _,
+            params,
+            body: _,
+        } => has_spread(params),
+        Function::Arrow {
+            params,
+            arrow: _,
+            value: _,
+        } => arrow_rests(params),
+        Function::ArrowBlock {
+            params,
+            arrow: _,
+            body: _,
+        } => arrow_rests(params),
+    }
+}
+
+fn arrow_rests(params: &ArrowParams<Slot>) -> bool
+    ensures { result ≡ functions.arrow_rests params.now }
+{
+    match params {
+        ArrowParams::Bare(_) => false,
+        ArrowParams::Round(bracket) => has_spread(bracket),
+    }
+}
+
+// Whether one of the slots has `...`.
+fn has_spread(params: &Bracket<Element<Slot>>) -> bool
+    ensures { result ≡ brackets.has_spread (elements params.now) }
+{
+    for listed in params.front.as_slice() {
+        if listed.item.dots.is_some() {
+            return true;
+        }
+    }
+    match &params.last {
+        None => false,
+        Some(element) => element.dots.is_some(),
+    }
 }
