@@ -1,6 +1,5 @@
 -- Lists in brackets: parameters, arguments and the items of arrays (ECMA-262, 12.2.5, 12.3 and 14.1).
-use Rattle.std.specs.Prelude.{◌-◌, List, [], ◌∷◌, ◌++◌, map, length, slice_get, Option, Some, None, is_some, Bool, if◌then◌else◌}
-use Rattle.std.specs.List.{list_any}
+use Rattle.std.specs.Prelude.{◌-◌, List, [], ◌∷◌, ◌++◌, map, length, slice_get, Option, Some, None, is_some, if◌then◌else◌}
 use Rattle.js_tree.specs.declared.lists.Bracket.{Bracket}
 use Rattle.js_tree.specs.declared.lists.Element.{Element}
 
@@ -18,9 +17,10 @@ abbrev pub placed : {X : Type 0} → List (Element X) → List X
 placed [] = []
 placed (e ∷ es) = if is_some e.dots then [] else e.value ∷ placed es
 
--- one of them has `...`
-abbrev pub has_spread : {X : Type 0} → List (Element X) → Bool
-has_spread = list_any (λ e. is_some e.dots)
+-- what stands behind `...`, where the item has it
+abbrev pub behind_dots : {X : Type 0} → Option (Element X) → Option X
+behind_dots None = None
+behind_dots (Some e) = if is_some e.dots then Some e.value else None
 
 -- the last item
 abbrev pub last_of : {X : Type 0} → List X → Option X

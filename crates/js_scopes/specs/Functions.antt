@@ -18,7 +18,7 @@ use Rattle.js_tree.specs.declared.tree.Slot.{Slot, out-Slot}
 use Rattle.js_tree.specs.Folds.{ExprLayer, FunctionLayer, KeyLayer, PatternLayer, PropertyLayer}
 use Rattle.js_tree.specs.Lexical.Value.{value_of}
 use Rattle.js_tree.specs.Parts.{Node, AnExpr, AFunction, AProperty, ASlot, gathered}
-use Rattle.js_scopes.specs.Brackets.{elements, has_spread, last_of, listed, placed}
+use Rattle.js_scopes.specs.Brackets.{behind_dots, elements, last_of, listed, placed}
 use Rattle.js_scopes.specs.declared.function.FunctionInfo.{FunctionInfo}
 
 -- WHAT A FUNCTION HAS
@@ -38,7 +38,13 @@ abbrev pub arrow_slots : ArrowParams Slot → List Slot
 arrow_slots (shape.Bare x) = x ∷ []
 arrow_slots (shape.Round b) = placed (elements b)
 
--- the function's first token, its own name, and its parameters but the rest
+-- its rest, which is the last, with no comma behind it
+abbrev pub arrow_rest : ArrowParams Slot → Option Slot
+arrow_rest (shape.Bare x) = None
+arrow_rest (shape.Round b) = behind_dots b.last
+
+-- the function's first token, its own name, its parameters but the rest, the rest, whether it is an arrow, and the value that an
+-- arrow without braces gives
 abbrev pub start_in : FunctionLayer → ℕ
 start_in (Function-F.Keyword word name ps body) = word.start
 start_in (Function-F.Arrow ps arrow value) = (first_token ps arrow).start
@@ -53,19 +59,18 @@ params_in (Function-F.Keyword word name ps body) = placed (elements ps)
 params_in (Function-F.Arrow ps arrow value) = arrow_slots ps
 params_in (Function-F.ArrowBlock ps arrow body) = arrow_slots ps
 
--- the function has a rest parameter
-abbrev pub arrow_rests : ArrowParams Slot → Bool
-arrow_rests (shape.Bare x) = false
-arrow_rests (shape.Round b) = has_spread (elements b)
-
-abbrev pub has_rest : FunctionLayer → Bool
-has_rest (Function-F.Keyword word name ps body) = has_spread (elements ps)
-has_rest (Function-F.Arrow ps arrow value) = arrow_rests ps
-has_rest (Function-F.ArrowBlock ps arrow body) = arrow_rests ps
+abbrev pub rest_in : FunctionLayer → Option Slot
+rest_in (Function-F.Keyword word name ps body) = behind_dots ps.last
+rest_in (Function-F.Arrow ps arrow value) = arrow_rest ps
+rest_in (Function-F.ArrowBlock ps arrow body) = arrow_rest ps
 
 abbrev pub is_arrow : FunctionLayer → Bool
 is_arrow (Function-F.Keyword word name ps body) = false
 is_arrow _ = true
+
+abbrev pub arrow_value : FunctionLayer → Option Expr
+arrow_value (Function-F.Arrow ps arrow value) = Some value
+arrow_value _ = None
 
 abbrev pub start_of : Function → ℕ
 start_of f = start_in (out-Function f)

@@ -1,10 +1,11 @@
-//! Where functions start, and which of them are arrows.
+//! Where functions start, which of them are arrows, and what these give.
 ghost use Rattle.std.specs.Prelude.{◌≡◌};
+ghost use Rattle.std.specs.Option.{option_map};
 ghost use Rattle.js_tree.specs.declared.tree.Function.{out-Function};
 ghost use Rattle.js_tree.specs.declared.tree.Pattern.{out-Pattern};
 ghost use Rattle.js_scopes.specs.Functions as seen;
 
-use js_tree::{ArrowParams, Function, Pattern, Slot, Token};
+use js_tree::{ArrowParams, Expr, Function, Pattern, Slot, Token};
 
 /// The offset of the first token of a function: of an arrow its name, or the `(` of its parameters.
 pub fn start_of(function: &Function) -> u32
@@ -56,9 +57,19 @@ fn name_start(pattern: &Pattern, other: &Token) -> u32
     }
 }
 
-/// Whether the function is an arrow.
-pub fn is_arrow(function: &Function) -> bool
+// Whether the function is an arrow.
+pub(crate) fn is_arrow(function: &Function) -> bool
     ensures { result ≡ seen.is_arrow (out-Function function.now) }
+{
+    matches!(
+        function,
+        Function::Arrow { .. } | Function::ArrowBlock { .. }
+    )
+}
+
+/// The value that an arrow without braces gives.
+pub fn arrow_value(function: &Function) -> Option<&Expr>
+    ensures { option_map (λ x. x.now) result ≡ seen.arrow_value (out-Function function.now) }
 {
     match function {
         Function::Keyword {
@@ -66,16 +77,16 @@ pub fn is_arrow(function: &Function) -> bool
             name: _,
             params: _,
             body: _,
-        } => false,
+        } => None,
         Function::Arrow {
             params: _,
             arrow: _,
-            value: _,
-        } => true,
+            value,
+        } => Some(value.get()),
         Function::ArrowBlock {
             params: _,
             arrow: _,
             body: _,
-        } => true,
+        } => None,
     }
 }

@@ -1,10 +1,10 @@
 //! Parameters and arguments: lists in brackets.
-ghost use Rattle.std.specs.Prelude.{◌≡◌, ◌<◌, ◌++◌, ◌∷◌, [], length, map, IfOk, OnOk};
+ghost use Rattle.std.specs.Prelude.{◌≡◌, ◌<◌, ◌++◌, ◌∷◌, [], Some, length, map, IfOk, OnOk};
+ghost use Rattle.std.specs.Option.{option_map};
 ghost use Rattle.js_tree.specs.declared.tree.Function.{out-Function};
-ghost use Rattle.js_scopes.specs.Brackets as brackets;
-ghost use Rattle.js_scopes.specs.Brackets.{elements, listed, placed};
+ghost use Rattle.js_scopes.specs.Brackets.{behind_dots, elements, listed, placed};
 ghost use Rattle.js_scopes.specs.Functions as functions;
-ghost use Rattle.js_scopes.specs.Functions.{params_in};
+ghost use Rattle.js_scopes.specs.Functions.{params_in, rest_in};
 
 use jam_base::OutOfMemory;
 use js_tree::{ArrowParams, Bracket, Element, Expr, Function, Slot};
@@ -115,9 +115,9 @@ fn push_placed<'t>(element: &'t Element<Slot>, found: &mut Vec<&'t Slot>) -> Res
     Ok(())
 }
 
-/// Whether a function has a rest parameter.
-pub fn has_rest(function: &Function) -> bool
-    ensures { result ≡ functions.has_rest (out-Function function.now) }
+/// The rest parameter of a function.
+pub fn rest_of(function: &Function) -> Option<&Slot>
+    ensures { option_map (λ s. s.now) result ≡ rest_in (out-Function function.now) }
 {
     match function {
         Function::Keyword {
@@ -125,40 +125,46 @@ pub fn has_rest(function: &Function) -> bool
             name: _,
             params,
             body: _,
-        } => has_spread(params),
+        } => behind_dots(&params.last),
         Function::Arrow {
             params,
             arrow: _,
             value: _,
-        } => arrow_rests(params),
+        } => arrow_rest(params),
         Function::ArrowBlock {
             params,
             arrow: _,
             body: _,
-        } => arrow_rests(params),
+        } => arrow_rest(params),
     }
 }
 
-fn arrow_rests(params: &ArrowParams<Slot>) -> bool
-    ensures { result ≡ functions.arrow_rests params.now }
+// That of an arrow.
+fn arrow_rest(params: &ArrowParams<Slot>) -> Option<&Slot>
+    ensures { option_map (λ s. s.now) result ≡ functions.arrow_rest params.now }
 {
     match params {
-        ArrowParams::Bare(_) => false,
-        ArrowParams::Round(bracket) => has_spread(bracket),
+        ArrowParams::Bare(_) => None,
+        ArrowParams::Round(bracket) => behind_dots(&bracket.last),
     }
 }
 
-// Whether one of the slots has `...`.
-fn has_spread(params: &Bracket<Element<Slot>>) -> bool
-    ensures { result ≡ brackets.has_spread (elements params.now) }
+// What stands behind `...`, where the item has it.
+fn behind_dots(item: &Option<Element<Slot>>) -> Option<&Slot>
+    ensures { option_map (λ s. s.now) result ≡ behind_dots item.now }
 {
-    for listed in params.front.as_slice() {
-        if listed.item.dots.is_some() {
-            return true;
-        }
+    match item {
+        None => None,
+        Some(element) => slot_behind_dots(element),
     }
-    match &params.last {
-        None => false,
-        Some(element) => element.dots.is_some(),
+}
+
+fn slot_behind_dots(element: &Element<Slot>) -> Option<&Slot>
+    ensures { option_map (λ s. s.now) result ≡ behind_dots (Some element.now) }
+{
+    if element.dots.is_some() {
+        Some(&element.value)
+    } else {
+        None
     }
 }

@@ -8,7 +8,7 @@ use Rattle.js_scopes.proofs.names.number_inside.Goals as goal
 pub returns-then-is_arrow : goal.returns-then-is_arrow
 returns-then-is_arrow c n same = ap (λ b. if b then c.args.holder else function_number n (start_of c.args.function.now)) (sym c.if-is_arrow.true ∙ c.is_arrow.ensures)
 
-pub returns : goal.returns
-returns c n same =
+pub returns-else-is_arrow : goal.returns-else-is_arrow
+returns-else-is_arrow c n same =
     c.function_number.ensures ∙ (λ i. count_by (λ (f : FunctionInfo). nat_lt f.start (c.start_of.ensures i)) (sym same.functions i) + 1)
     ∙ ap (λ b. if b then c.args.holder else function_number n (start_of c.args.function.now)) (sym c.if-is_arrow.false ∙ c.is_arrow.ensures)
