@@ -11,7 +11,6 @@ use Rattle.std.proofs.lemmas.Cmp.{ranked}
 use Rattle.std.proofs.lemmas.List.Elements.{All-contains_itself, recursion_from_All}
 use Rattle.std.proofs.lemmas.List.Sums.{count_by-le-length, sum_by-cons}
 use Rattle.js_tree.specs.declared.token.Token.{Token}
-use Rattle.js_tree.specs.declared.lists.ArrowParams.{ArrowParams}
 use Rattle.js_tree.specs.declared.lists.ArrowParams.TheVariants as shape
 use Rattle.js_tree.specs.declared.lists.Tail.TheVariants as tail
 use Rattle.js_tree.specs.declared.tree.Expr.{out-Expr}
@@ -20,13 +19,13 @@ use Rattle.js_tree.specs.declared.tree.Function.{out-Function}
 use Rattle.js_tree.specs.declared.tree.Pattern.{out-Pattern}
 use Rattle.js_tree.specs.declared.tree.Slot.{Slot, out-Slot}
 use Rattle.js_tree.specs.Folds.{ExprLayer, FunctionLayer, PatternLayer}
-use Rattle.js_tree.specs.Line.{LineItem, AToken, given_marks, items}
-use Rattle.js_tree.specs.Parts.{Node, AnExpr, AFunction, AKey, APattern, APatternProperty, AProperty, AStmt, ASlot, ATail, ABody, nodes, parts}
+use Rattle.js_tree.specs.Line.{given_marks, items}
+use Rattle.js_tree.specs.Parts.{Node, AnExpr, AFunction, APattern, ASlot, ATail, nodes, parts}
 use Rattle.js_tree.specs.Spelling.Expressions.{expr_row}
 use Rattle.js_tree.specs.Spelling.Functions.{function_row}
 use Rattle.js_tree.specs.Spelling.Nodes.{unmarked}
 use Rattle.js_tree.specs.Spelling.Patterns.{pattern_row}
-use Rattle.js_tree.specs.Spelling.Rows.{arrow_params_row, block_row, init_row, maybe}
+use Rattle.js_tree.specs.Spelling.Rows.{block_row, init_row, maybe}
 use Rattle.js_tree.specs.Tokens.{IsInText, IsOfText, own_tokens, tokens_among, tokens_in}
 use Rattle.js_tree.proofs.GatherLemmas.{each_front}
 use Rattle.js_tree.proofs.TokenLemmas.{tokens_are}
@@ -202,9 +201,9 @@ expr_once offset part holder (Expr-F.New word head tails args) =
 expr_once offset part holder _ = omega arith
 
 -- a token of its own for each site of a node
-pub own_once : (known : Known) (offset part : ℕ) (n : Node) (c : ℕ) → count_by (is_at offset part) (own_sites known n c) + 0 ≤ count_by (λ (t : Token). t.start == offset) (own_tokens n) + sum_by (λ m. 0) (parts n)
-own_once known offset part (AnExpr x) c = let a = expr_once offset part c (out-Expr x) in omega (arith, a)
-own_once known offset part (ATail head before (tail.Call a)) c = let b = by (is_required known head before (elements a)) in omega (arith, b)
+pub own_once : (known : Known) (offset part : ℕ) (n : Node) (c : ℕ) → count_by (is_at offset part) (own_sites known n c) ≤ count_by (λ (t : Token). t.start == offset) (own_tokens n)
+own_once known offset part (AnExpr x) c = expr_once offset part c (out-Expr x)
+own_once known offset part (ATail head before (tail.Call a)) c = by (is_required known head before (elements a))
   where
     by : (z : Bool) → count_by (is_at offset part) (unrequired_sites c z (last_member before) a.open.start (elements a)) ≤ count_by (λ (t : Token). t.start == offset) (own_tokens (ATail head before (tail.Call a)))
     by true = omega arith
@@ -225,80 +224,66 @@ own_once known offset part _ c = omega arith
 abbrev pub starts_at : ℕ → FunctionInfo → Bool
 starts_at offset f = nat_eq f.start offset
 
--- a token counts where it starts
-abbrev counts_at : ℕ → Token → ℕ
-counts_at offset t = one_if (nat_eq t.start offset)
+-- a name that is a pattern, or a slot's, is left to a function that begins with it
+abbrev pub pattern_left : ℕ → PatternLayer → ℕ
+pattern_left offset (Pattern-F.«Pattern::Name» t) = one_if (nat_eq t.start offset)
+pattern_left offset _ = 0
 
--- what the token of a name that is a pattern leaves to the arrow that begins with it
-abbrev name_left : ℕ → PatternLayer → ℕ
-name_left offset (Pattern-F.«Pattern::Name» t) = counts_at offset t
+abbrev pub target_left : ℕ → Slot → ℕ
+target_left offset s = pattern_left offset (out-Pattern (out-Slot s).target)
+
+abbrev pub name_left : ℕ → Node → ℕ
+name_left offset (APattern x) = pattern_left offset (out-Pattern x)
+name_left offset (ASlot x) = target_left offset x
 name_left offset _ = 0
 
-abbrev slot_left : ℕ → Slot → ℕ
-slot_left offset s = name_left offset (out-Pattern (out-Slot s).target)
+abbrev at_offset : ℕ → Token → Bool
+at_offset offset t = t.start == offset
 
-abbrev pub names_left : ℕ → Node → ℕ
-names_left offset (APattern p) = name_left offset (out-Pattern p)
-names_left offset (ASlot s) = slot_left offset s
-names_left offset _ = 0
+-- with its first token, or with what its first parameter has left
+one_more : (offset start : ℕ) (f : FunctionInfo) → f.start ≡ start → count_by (starts_at offset) (f ∷ []) ≡ one_if (nat_eq start offset)
+one_more offset start f e = let a = count_cons (starts_at offset) f [] in let b = ap (λ s. one_if (nat_eq s offset)) e in omega (arith, a, b)
 
-pattern_leaves : (offset : ℕ) (l : PatternLayer) → name_left offset l ≤ count_by (λ (t : Token). t.start == offset) (tokens_among (pattern_row items l []))
-pattern_leaves offset (Pattern-F.«Pattern::Name» t) = first_counts offset t (tokens_among (pattern_row items (Pattern-F.«Pattern::Name» t) [])) _ refl
-pattern_leaves offset (Pattern-F.Member chain) = omega arith
-pattern_leaves offset (Pattern-F.«Pattern::Paren» begin inner end) = omega arith
-pattern_leaves offset (Pattern-F.«Pattern::Array» slots) = omega arith
-pattern_leaves offset (Pattern-F.«Pattern::Object» properties) = omega arith
-
--- an arrow begins with the name that is its only parameter, or with a token of its own
-begins_once : (offset : ℕ) (ps : ArrowParams Slot) (arrow : Token) (rest : List LineItem) (ns : List Node)
-    → counts_at offset (first_token ps arrow) ≤ count_by (λ (t : Token). t.start == offset) (tokens_among (arrow_params_row given_marks items.slot ps (AToken arrow ∷ rest))) + sum_by (names_left offset) (arrow_params_row unmarked nodes.slot ps ns)
-begins_once offset (shape.Bare x) arrow rest ns = by (out-Pattern (out-Slot x).target) refl
+arrow_once : (offset : ℕ) (s : Slot) (arrow : Token) (ts : List Token) (ns : List Node) → one_if (nat_eq (first_token (shape.Bare s) arrow).start offset) ≤ count_by (at_offset offset) (arrow ∷ ts) + sum_by (name_left offset) (ASlot s ∷ ns)
+arrow_once offset s arrow ts ns = by (out-Pattern (out-Slot s).target) refl
   where
-    by : (l : PatternLayer) → out-Pattern (out-Slot x).target ≡ l
-        → counts_at offset (name_token (out-Pattern (out-Slot x).target) arrow) ≤ count_by (λ (t : Token). t.start == offset) (tokens_among (AToken arrow ∷ rest)) + sum_by (names_left offset) (ASlot x ∷ ns)
-    by (Pattern-F.«Pattern::Name» t) e =
-        let a = ap (λ l. counts_at offset (name_token l arrow)) e in
-        let b = ap (name_left offset) e in
-        let c = sum_by-cons (names_left offset) (ASlot x) ns in
-        omega (arith, a, b, c)
-    by (Pattern-F.Member chain) e = other (ap (λ l. counts_at offset (name_token l arrow)) e)
-    by (Pattern-F.«Pattern::Paren» begin inner end) e = other (ap (λ l. counts_at offset (name_token l arrow)) e)
-    by (Pattern-F.«Pattern::Array» slots) e = other (ap (λ l. counts_at offset (name_token l arrow)) e)
-    by (Pattern-F.«Pattern::Object» properties) e = other (ap (λ l. counts_at offset (name_token l arrow)) e)
+    by : (l : PatternLayer) → out-Pattern (out-Slot s).target ≡ l → one_if (nat_eq (name_token l arrow).start offset) ≤ count_by (at_offset offset) (arrow ∷ ts) + sum_by (name_left offset) (ASlot s ∷ ns)
+    by (Pattern-F.«Pattern::Name» t) e = let a = sum_by-cons (name_left offset) (ASlot s) ns in let b = ap (pattern_left offset) e in omega (arith, a, b)
+    by _ e = let a = count_cons (at_offset offset) arrow ts in omega (arith, a)
 
-    other : counts_at offset (name_token (out-Pattern (out-Slot x).target) arrow) ≡ counts_at offset arrow
-        → counts_at offset (name_token (out-Pattern (out-Slot x).target) arrow) ≤ count_by (λ (t : Token). t.start == offset) (tokens_among (AToken arrow ∷ rest)) + sum_by (names_left offset) (ASlot x ∷ ns)
-    other e = let a = first_counts offset arrow (tokens_among (AToken arrow ∷ rest)) _ refl in omega (arith, e, a)
-begins_once offset (shape.Round b) arrow rest ns =
-    let a = first_counts offset b.«open» (tokens_among (arrow_params_row given_marks items.slot (shape.Round b) (AToken arrow ∷ rest))) _ refl in omega (arith, a)
-
-function_once : (offset : ℕ) (l : FunctionLayer) (given : Option Token)
-    → count_by (starts_at offset) (info_in l given ∷ []) + 0 ≤ count_by (λ (t : Token). t.start == offset) (tokens_among (function_row items l [])) + sum_by (names_left offset) (function_row nodes l [])
+function_once : (offset : ℕ) (l : FunctionLayer) (given : Option Token) → count_by (starts_at offset) (info_in l given ∷ []) ≤ count_by (at_offset offset) (tokens_among (function_row items l [])) + sum_by (name_left offset) (function_row nodes l [])
 function_once offset (Function-F.Keyword word name ps body) given =
-    let a = count_cons (starts_at offset) (info_in (Function-F.Keyword word name ps body) given) [] in
+    let a = one_more offset word.start (info_in (Function-F.Keyword word name ps body) given) refl in
     let b = first_counts offset word (tokens_among (function_row items (Function-F.Keyword word name ps body) [])) _ refl in
     omega (arith, a, b)
-function_once offset (Function-F.Arrow ps arrow value) given =
-    let a = count_cons (starts_at offset) (info_in (Function-F.Arrow ps arrow value) given) [] in
-    let b = begins_once offset ps arrow (items.expr value []) (nodes.expr value []) in
+function_once offset (Function-F.Arrow (shape.Bare s) arrow x) given =
+    let a = one_more offset (first_token (shape.Bare s) arrow).start (info_in (Function-F.Arrow (shape.Bare s) arrow x) given) refl in
+    let b = arrow_once offset s arrow [] (AnExpr x ∷ []) in
     omega (arith, a, b)
-function_once offset (Function-F.ArrowBlock ps arrow body) given =
-    let a = count_cons (starts_at offset) (info_in (Function-F.ArrowBlock ps arrow body) given) [] in
-    let b = begins_once offset ps arrow (block_row given_marks items.stmt body []) (block_row unmarked nodes.stmt body []) in
+function_once offset (Function-F.Arrow (shape.Round ps) arrow x) given =
+    let a = one_more offset ps.open.start (info_in (Function-F.Arrow (shape.Round ps) arrow x) given) refl in
+    let b = first_counts offset ps.open (tokens_among (function_row items (Function-F.Arrow (shape.Round ps) arrow x) [])) _ refl in
+    omega (arith, a, b)
+function_once offset (Function-F.ArrowBlock (shape.Bare s) arrow body) given =
+    let a = one_more offset (first_token (shape.Bare s) arrow).start (info_in (Function-F.ArrowBlock (shape.Bare s) arrow body) given) refl in
+    let b = arrow_once offset s arrow (tokens_among (block_row given_marks items.stmt body [])) (block_row unmarked nodes.stmt body []) in
+    omega (arith, a, b)
+function_once offset (Function-F.ArrowBlock (shape.Round ps) arrow body) given =
+    let a = one_more offset ps.open.start (info_in (Function-F.ArrowBlock (shape.Round ps) arrow body) given) refl in
+    let b = first_counts offset ps.open (tokens_among (function_row items (Function-F.ArrowBlock (shape.Round ps) arrow body) [])) _ refl in
     omega (arith, a, b)
 
-pub functions_once : (offset : ℕ) (n : Node) (given : Option Token)
-    → count_by (starts_at offset) (own_functions n given) + names_left offset n ≤ count_by (λ (t : Token). t.start == offset) (own_tokens n) + sum_by (names_left offset) (parts n)
-functions_once offset (AFunction f) given = function_once offset (out-Function f) given
-functions_once offset (APattern p) given = let a = pattern_leaves offset (out-Pattern p) in omega (arith, a)
-functions_once offset (ASlot s) given = let a = sum_by-cons (names_left offset) (APattern (out-Slot s).target) (maybe (init_row unmarked nodes.expr) (out-Slot s).init []) in omega (arith, a)
-functions_once offset (AnExpr x) given = omega arith
-functions_once offset (AKey x) given = omega arith
-functions_once offset (APatternProperty x) given = omega arith
-functions_once offset (AProperty x) given = omega arith
-functions_once offset (AStmt x) given = omega arith
-functions_once offset (ATail head before t) given = omega arith
-functions_once offset (ABody body) given = omega arith
+pattern_once : (offset : ℕ) (l : PatternLayer) → pattern_left offset l ≤ count_by (at_offset offset) (tokens_among (pattern_row items l []))
+pattern_once offset (Pattern-F.«Pattern::Name» t) = first_counts offset t (t ∷ []) [] refl
+pattern_once offset _ = omega arith
+
+pub functions_once : (offset : ℕ) (n : Node) (given : Option Token) → count_by (starts_at offset) (own_functions n given) + name_left offset n ≤ count_by (at_offset offset) (own_tokens n) + sum_by (name_left offset) (parts n)
+functions_once offset (AFunction f) given = let a = function_once offset (out-Function f) given in omega (arith, a)
+functions_once offset (APattern x) given = let a = pattern_once offset (out-Pattern x) in omega (arith, a)
+functions_once offset (ASlot x) given =
+    let a = sum_by-cons (name_left offset) (APattern (out-Slot x).target) (maybe (init_row unmarked nodes.expr) (out-Slot x).init []) in
+    omega (arith, a)
+functions_once offset _ given = omega arith
 
 pub nat_same : (a b : ℕ) → a ≡ b → nat_eq a b ≡ true
 nat_same a b e = grind (arith, nat_tests, e)

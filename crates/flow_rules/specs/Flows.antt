@@ -1,54 +1,42 @@
 -- What a tree says of its values: what each kind of node gives by itself.
-use Rattle.std.specs.Prelude.{ℕ, ◌+◌, ◌==◌, List, [], ◌∷◌, ◌++◌, Option, Some, None, is_some, if◌then◌else◌}
+use Rattle.std.specs.Prelude.{ℕ, ◌+◌, ◌==◌, List, [], ◌∷◌, ◌++◌, Option, Some, None, if◌then◌else◌}
 use Rattle.std.specs.List.{flat_map, list_any}
 use Rattle.std.specs.Ordering.{nat_cmp, on}
 use Rattle.std.specs.declared.cmp.Ordering.{Ordering}
 use Rattle.js_tree.specs.declared.lists.Arm.{Arm}
-use Rattle.js_tree.specs.declared.lists.Element.{Element}
 use Rattle.js_tree.specs.declared.lists.Further.{Further}
 use Rattle.js_tree.specs.declared.lists.Init.{Init}
 use Rattle.js_tree.specs.declared.token.Token.{Token}
 use Rattle.js_tree.specs.declared.tree.Expr.{Expr, out-Expr}
-use Rattle.js_tree.specs.declared.tree.Expr.TheOpen.{Expr-F, Function-F, Pattern-F, PatternProperty-F, Property-F, Stmt-F}
+use Rattle.js_tree.specs.declared.tree.Expr.TheOpen.{Expr-F, Pattern-F, Stmt-F}
 use Rattle.js_tree.specs.declared.tree.Function.{Function, out-Function}
-use Rattle.js_tree.specs.declared.tree.Key.{Key}
 use Rattle.js_tree.specs.declared.tree.Pattern.{Pattern, out-Pattern}
 use Rattle.js_tree.specs.declared.tree.PatternProperty.{out-PatternProperty}
 use Rattle.js_tree.specs.declared.tree.Property.{out-Property}
 use Rattle.js_tree.specs.declared.tree.Slot.{Slot, out-Slot}
 use Rattle.js_tree.specs.declared.tree.Stmt.{out-Stmt}
 use Rattle.js_tree.specs.declared.tree.Tree.{Tree}
-use Rattle.js_tree.specs.Folds.{ExprLayer, FunctionLayer, PatternLayer, PatternPropertyLayer, PropertyLayer, SlotLayer, StmtLayer}
+use Rattle.js_tree.specs.Folds.{ExprLayer, FunctionLayer, PatternLayer, SlotLayer, StmtLayer}
 use Rattle.js_tree.specs.Parts.{Node, AnExpr, AFunction, AKey, APattern, APatternProperty, AProperty, AStmt, ASlot, ATail, ABody, gathered}
 use Rattle.jam_base.specs.Ascending.{ascending}
-use Rattle.js_scopes.specs.Brackets.{elements}
 use Rattle.js_scopes.specs.Calls.{Known, holder_in, made_with}
-use Rattle.js_scopes.specs.Functions.{has_rest, is_assignment, name_in, params_in, start_of}
+use Rattle.js_scopes.specs.Functions.{arrow_value, is_assignment, name_in, params_in, rest_in, start_of}
 use Rattle.js_scopes.specs.Scopes.{functions_of, known_of, sites_of}
 use Rattle.flow_rules.specs.declared.module.Flow.{Flow}
 use Rattle.flow_rules.specs.declared.module.ModuleNote.{ModuleNote}
 use Rattle.flow_rules.specs.declared.module.Require.{Require}
 use Rattle.flow_rules.specs.declared.notes.Standing.TheVariants as standing
-use Rattle.flow_rules.specs.declared.vertex.Vertex.{Vertex}
 use Rattle.flow_rules.specs.declared.vertex.Vertex.TheVariants as vertex
 use Rattle.flow_rules.specs.Arguments.{arguments_in, arguments_of_name}
 use Rattle.flow_rules.specs.Calls.{flow, made_flows, tail_flows}
 use Rattle.flow_rules.specs.Constraints.{ModuleConstraints}
-use Rattle.flow_rules.specs.Keys.{key_vertex, shorthand_vertex, taken_vertex}
+use Rattle.flow_rules.specs.Items.{array_flows, elements_flows, into, into_slot, pattern_property_flows, property_flows}
 use Rattle.flow_rules.specs.Numbered.{numbered_of, place_in}
 use Rattle.flow_rules.specs.Requires.{notes_in, requires_in}
-use Rattle.flow_rules.specs.Values.{Facts, OR, choice_mark, joined_vertex, operator_mark, place, token_vertex, value}
+use Rattle.flow_rules.specs.Values.{Facts, OR, choice_mark, joined_vertex, operator_mark, token_vertex, value}
 use Rattle.flow_rules.specs.Vertices.{flow_order}
 
--- PATTERNS AND NAMES
-
--- values that come to a pattern
-abbrev pub into : Facts → Pattern → Option Vertex → List Flow
-into facts p from = flow from (place facts p)
-
--- values that come to the pattern of a slot
-abbrev pub into_slot : Facts → Slot → Option Vertex → List Flow
-into_slot facts s from = into facts (out-Slot s).target from
+-- NAMES
 
 -- a name that means the arguments of a function: what that takes past its parameters is an element
 abbrev pub rest_flows : List ℕ → List Flow
@@ -76,33 +64,11 @@ operands_flows facts level first others =
 abbrev pub choice_flows : Facts → List (Arm Expr) → Expr → List Flow
 choice_flows facts arms last = flat_map (λ x. joined_flow facts (choice_mark arms) x.value) arms ++ joined_flow facts (choice_mark arms) last
 
--- ARRAYS AND OBJECTS
-
--- an item of an array is an element; a spread is nothing new, and a hole nothing
-abbrev pub element_flows : Facts → Element Expr → List Flow
-element_flows facts e = if is_some e.dots then [] else flow (value facts e.value) (Some vertex.Elem)
-
-abbrev pub item_flows : Facts → Option (Element Expr) → List Flow
-item_flows facts None = []
-item_flows facts (Some e) = element_flows facts e
-
--- the value of a property comes to it
-abbrev pub pair_flows : Facts → Key → Expr → List Flow
-pair_flows facts key x = flow (value facts x) (Some (key_vertex key))
-
-abbrev pub shorthand_flows : Facts → Expr → List Flow
-shorthand_flows facts x = flow (value facts x) (shorthand_vertex (out-Expr x))
-
-abbrev pub property_flows : Facts → PropertyLayer → List Flow
-property_flows facts (Property-F.Pair key colon x) = pair_flows facts key x
-property_flows facts (Property-F.Shorthand x) = shorthand_flows facts x
-property_flows facts (Property-F.Spread dots x) = []
-
--- Name: its flows. Array: its items are elements. New: those of its call. Binary with `||`: its operands come to it. Cond: so does the value of each arm, and the last. Assign: from
--- its right side to its target
+-- Name: its flows. Array: those of its items. New: those of its call. Binary with `||`: its operands come to it. Cond: so does the value of each arm,
+-- and the last. Assign: from its right side to its target
 abbrev pub expr_flows : Facts → ExprLayer → List Flow
 expr_flows facts (Expr-F.«Expr::Name» t) = name_flows facts.known t
-expr_flows facts (Expr-F.«Expr::Array» items) = flat_map (item_flows facts) (elements items)
+expr_flows facts (Expr-F.«Expr::Array» items) = array_flows facts items
 expr_flows facts (Expr-F.New word head tails args) = made_flows facts head tails word.start (made_with args)
 expr_flows facts (Expr-F.Binary level first others) = operands_flows facts level first others
 expr_flows facts (Expr-F.Cond arms last) = choice_flows facts arms last
@@ -111,30 +77,10 @@ expr_flows facts _ = []
 
 -- PATTERNS
 
--- an element comes to a slot of an array's pattern; to the rest and to a hole nothing
-abbrev pub slot_element_flows : Facts → Element Slot → List Flow
-slot_element_flows facts e = if is_some e.dots then [] else into_slot facts e.value (Some vertex.Elem)
-
-abbrev pub slot_item_flows : Facts → Option (Element Slot) → List Flow
-slot_item_flows facts None = []
-slot_item_flows facts (Some e) = slot_element_flows facts e
-
--- the values of a property come to its slot; to the rest nothing
-abbrev pub keyed_flows : Facts → Key → Slot → List Flow
-keyed_flows facts key s = into_slot facts s (Some (key_vertex key))
-
-abbrev pub taken_flows : Facts → Slot → List Flow
-taken_flows facts s = into_slot facts s (taken_vertex (out-Pattern (out-Slot s).target))
-
-abbrev pub pattern_property_flows : Facts → PatternPropertyLayer → List Flow
-pattern_property_flows facts (PatternProperty-F.Keyed key colon s) = keyed_flows facts key s
-pattern_property_flows facts (PatternProperty-F.Named s) = taken_flows facts s
-pattern_property_flows facts (PatternProperty-F.Rest dots s) = []
-
--- Name: its flows. Array: elements come to its slots
+-- Name: its flows. Array: those of its slots
 abbrev pub pattern_flows : Facts → PatternLayer → List Flow
 pattern_flows facts (Pattern-F.«Pattern::Name» t) = name_flows facts.known t
-pattern_flows facts (Pattern-F.«Pattern::Array» slots) = flat_map (slot_item_flows facts) (elements slots)
+pattern_flows facts (Pattern-F.«Pattern::Array» slots) = elements_flows facts slots
 pattern_flows facts _ = []
 
 -- FUNCTIONS
@@ -155,22 +101,26 @@ abbrev pub params_flows : Facts → ℕ → ℕ → List Slot → List Flow
 params_flows facts number i [] = []
 params_flows facts number i (s ∷ ss) = param_flows facts number i s ++ params_flows facts number (i + 1) ss
 
--- what a rest parameter takes is an element
-abbrev pub rest_param_flows : ℕ → FunctionLayer → List Flow
-rest_param_flows number l = if has_rest l then flow (Some (vertex.Rest number)) (Some vertex.Elem) else []
+-- what a rest parameter takes are elements; it is an array of them, whose values stand nowhere
+abbrev pub rest_param_flows : ℕ → Option Slot → List Flow
+rest_param_flows number None = []
+rest_param_flows number (Some s) = flow (Some (vertex.Rest number)) (Some vertex.Elem)
 
--- what an arrow gives comes to what it returns
-abbrev pub arrow_flows : Facts → ℕ → FunctionLayer → List Flow
-arrow_flows facts number (Function-F.Arrow ps arrow x) = flow (value facts x) (Some (vertex.Ret number))
-arrow_flows facts number _ = []
+-- what is given comes to what the function with this number returns
+abbrev pub returned_flows : Facts → ℕ → Option Expr → List Flow
+returned_flows facts number None = []
+returned_flows facts number (Some x) = flow (value facts x) (Some (vertex.Ret number))
 
--- the flows of a function with this number
-abbrev pub numbered_flows : Facts → ℕ → FunctionLayer → List Flow
-numbered_flows facts number l =
-    named_flows facts.known number (name_in l) ++ params_flows facts number 0 (params_in l) ++ rest_param_flows number l ++ arrow_flows facts number l
+-- a function with this number: its name, its parameters, its rest, and the value that an arrow without braces gives
+abbrev pub flows_of_function : Facts → ℕ → FunctionLayer → List Flow
+flows_of_function facts number l =
+    named_flows facts.known number (name_in l)
+    ++ params_flows facts number 0 (params_in l)
+    ++ rest_param_flows number (rest_in l)
+    ++ returned_flows facts number (arrow_value l)
 
 abbrev pub function_flows : Facts → Function → List Flow
-function_flows facts f = numbered_flows facts (facts.known.number (start_of f)) (out-Function f)
+function_flows facts f = flows_of_function facts (facts.known.number (start_of f)) (out-Function f)
 
 -- SLOTS AND STATEMENTS
 
@@ -182,11 +132,7 @@ given_flows facts target (Some x) = into facts target (value facts x.value)
 abbrev pub slot_flows : Facts → SlotLayer → List Flow
 slot_flows facts slot = given_flows facts slot.target slot.init
 
--- Return: what is given comes to what the function with this number returns
-abbrev pub returned_flows : Facts → ℕ → Option Expr → List Flow
-returned_flows facts holder None = []
-returned_flows facts holder (Some x) = flow (value facts x) (Some (vertex.Ret holder))
-
+-- Return: what is given, in the function with this number
 abbrev pub stmt_flows : Facts → ℕ → StmtLayer → List Flow
 stmt_flows facts holder (Stmt-F.Return word value semi) = returned_flows facts holder value
 stmt_flows facts holder _ = []

@@ -66,7 +66,8 @@ abbrev pub standing_in_stmt : StmtLayer → Standing
 standing_in_stmt (Stmt-F.Vars word first others semi) = standing.Declared
 standing_in_stmt _ = standing.Value
 
--- how the parts of a node stand: the parameters of a function are declared, and those of a slot, of a pattern and of a property in one stand as these themselves
+-- how the parts of a node stand: the parameters of a function are declared, and those of a slot, of a pattern and of a property in it stand as these
+-- themselves
 abbrev pub standing_in : Node → Standing → Standing
 standing_in (AnExpr x) s = standing_in_expr (out-Expr x)
 standing_in (AFunction f) s = standing.Declared

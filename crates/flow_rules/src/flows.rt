@@ -14,9 +14,11 @@ ghost use Rattle.flow_rules.specs.Flows as seen;
 use crate::calls::{push_made, push_tail_flows};
 use crate::facts::Facts;
 use crate::flow::{push_flow, push_flow_into};
-use crate::function_flows::push_function_flows;
-use crate::objects::{push_items, push_pattern_property_flows, push_property_flows, push_slots};
-use crate::values::{OR, choice_mark, joined_vertex, operator_mark, place_of, value_of};
+use crate::function_flows::{push_function_flows, push_result};
+use crate::item_flows::{
+    push_array, push_array_pattern, push_into, push_pattern_property, push_property,
+};
+use crate::values::{OR, choice_mark, joined_vertex, operator_mark, value_of};
 use crate::{Flow, Vertex};
 use jam_base::OutOfMemory;
 use js_scopes::{Binding, Known, is_assignment};
@@ -66,9 +68,9 @@ impl<'t, 'm> Gather<'t> for Flows<'m> {
             Node::Key(_) => Ok(()),
             Node::Pattern(pattern) => push_pattern_flows(alloc, &self.facts, pattern, out),
             Node::PatternProperty(property) => {
-                push_pattern_property_flows(alloc, &self.facts, property, out)
+                push_pattern_property(alloc, &self.facts, property, out)
             }
-            Node::Property(property) => push_property_flows(alloc, &self.facts, property, out),
+            Node::Property(property) => push_property(alloc, &self.facts, property, out),
             Node::Stmt(statement) => push_stmt_flows(alloc, &self.facts, statement, around, out),
             Node::Slot(slot) => push_slot_flows(alloc, &self.facts, slot, out),
             Node::Tail { head, before, tail } => {
@@ -94,7 +96,7 @@ fn push_expr_flows(
 {
     match value {
         Expr::Name(token) => push_name_flows(alloc, facts.known, token, out),
-        Expr::Array { items } => push_items(alloc, facts, items.get(), out),
+        Expr::Array { items } => push_array(alloc, facts, items.get(), out),
         Expr::New {
             word,
             head,
@@ -185,20 +187,6 @@ fn push_assigned(
     push_into(alloc, facts, target, &from, out)
 }
 
-/// Adds values that come to a pattern.
-pub(crate) fn push_into(
-    alloc: Global,
-    facts: &Facts<'_>,
-    target: &Pattern,
-    from: &Option<Vertex>,
-    out: &mut Vec<Flow>,
-) -> Result<(), OutOfMemory>
-    ensures { OnOk result (out.new.items ≡ out.old.items ++ seen.into (facts_in facts.now) target.now from.now) }
-{
-    let to = place_of(alloc, facts, target)?;
-    push_flow_into(alloc, from, to, out)
-}
-
 fn push_pattern_flows(
     alloc: Global,
     facts: &Facts<'_>,
@@ -209,7 +197,7 @@ fn push_pattern_flows(
 {
     match pattern {
         Pattern::Name(token) => push_name_flows(alloc, facts.known, token, out),
-        Pattern::Array { slots } => push_slots(alloc, facts, slots.get(), out),
+        Pattern::Array { slots } => push_array_pattern(alloc, facts, slots.get(), out),
         _ => Ok(()),
     }
 }
@@ -275,7 +263,6 @@ fn push_stmt_flows(
     }
 }
 
-// What is given comes to what the function with this number returns.
 fn push_returned(
     alloc: Global,
     facts: &Facts<'_>,
@@ -287,9 +274,6 @@ fn push_returned(
 {
     match value {
         None => Ok(()),
-        Some(value) => {
-            let from = value_of(alloc, facts, value.get())?;
-            push_flow(alloc, &from, Vertex::Ret { function: holder }, out)
-        }
+        Some(value) => push_result(alloc, facts, value.get(), holder, out),
     }
 }

@@ -1,7 +1,6 @@
-//! The flows of functions.
+//! The flows of functions: of their names, their parameters and what they give.
 ghost use Rattle.std.specs.Prelude.{◌≡◌, ◌<◌, ◌++◌, [], Some, if◌then◌else◌, length, map, OnOk};
 ghost use Rattle.std.specs.Option.{option_map};
-ghost use Rattle.js_tree.specs.declared.tree.Function.{out-Function};
 ghost use Rattle.js_tree.specs.Parts.{AFunction};
 ghost use Rattle.js_tree.specs.Tokens.{IsInText};
 ghost use Rattle.js_scopes.specs.AtHand.{known_in};
@@ -9,20 +8,19 @@ ghost use Rattle.flow_rules.specs.AtHand.{facts_in};
 ghost use Rattle.flow_rules.specs.declared.vertex.Vertex.TheVariants as vertex;
 ghost use Rattle.flow_rules.specs.Calls.{flow};
 ghost use Rattle.flow_rules.specs.Flows as seen;
-ghost use Rattle.flow_rules.specs.Values.{value as value_seen};
 
 use crate::facts::{Facts, token_vertex};
 use crate::flow::{push_flow, push_flow_into};
-use crate::flows::push_into;
+use crate::item_flows::push_into_slot;
 use crate::values::value_of;
 use crate::{Flow, Vertex};
 use jam_base::OutOfMemory;
-use js_scopes::{Known, has_rest, own_name, params_of, start_of};
+use js_scopes::{Known, arrow_value, own_name, params_of, rest_of, start_of};
 use js_tree::{Expr, Function, Slot, Token};
 use std::alloc::Global;
 
-/// Adds those of a function: it comes to its own name, what its parameters take to their patterns, what a
-/// rest parameter takes is an element, and what an arrow gives it returns.
+/// Adds the flows of a function: it comes to its own name, what its parameters take to their patterns, and
+/// the value of an arrow without braces to what it returns.
 pub(crate) fn push_function_flows(
     alloc: Global,
     facts: &Facts<'_>,
@@ -36,67 +34,8 @@ pub(crate) fn push_function_flows(
     push_named(alloc, facts.known, number, own_name(function), out)?;
     let params = params_of(alloc, function)?;
     push_params(alloc, facts, number, params.as_slice(), out)?;
-    push_rest_param(alloc, number, function, out)?;
-    push_arrow(alloc, facts, number, function, out)
-}
-
-// What a rest parameter takes is an element.
-fn push_rest_param(
-    alloc: Global,
-    number: u32,
-    function: &Function,
-    out: &mut Vec<Flow>,
-) -> Result<(), OutOfMemory>
-    ensures { OnOk result (out.new.items ≡ out.old.items ++ seen.rest_param_flows number (out-Function function.now)) }
-{
-    if has_rest(function) {
-        let rest = Some(Vertex::Rest { function: number });
-        return push_flow(alloc, &rest, Vertex::Elem, out);
-    }
-    Ok(())
-}
-
-// What an arrow gives comes to what it returns.
-fn push_arrow(
-    alloc: Global,
-    facts: &Facts<'_>,
-    number: u32,
-    function: &Function,
-    out: &mut Vec<Flow>,
-) -> Result<(), OutOfMemory>
-    ensures { OnOk result (out.new.items ≡ out.old.items ++ seen.arrow_flows (facts_in facts.now) number (out-Function function.now)) }
-{
-    match function {
-        Function::Keyword {
-            word: _,
-            name: _,
-            params: _,
-            body: _,
-        } => Ok(()),
-        Function::Arrow {
-            params: _,
-            arrow: _,
-            value,
-        } => push_given(alloc, facts, number, value.get(), out),
-        Function::ArrowBlock {
-            params: _,
-            arrow: _,
-            body: _,
-        } => Ok(()),
-    }
-}
-
-fn push_given(
-    alloc: Global,
-    facts: &Facts<'_>,
-    number: u32,
-    value: &Expr,
-    out: &mut Vec<Flow>,
-) -> Result<(), OutOfMemory>
-    ensures { OnOk result (out.new.items ≡ out.old.items ++ flow (value_seen (facts_in facts.now) value.now) (Some (vertex.Ret number))) }
-{
-    let from = value_of(alloc, facts, value)?;
-    push_flow(alloc, &from, Vertex::Ret { function: number }, out)
+    push_rest_param(alloc, number, rest_of(function), out)?;
+    push_arrow_value(alloc, facts, arrow_value(function), number, out)
 }
 
 // The function with this number comes to the name, where there is one.
@@ -153,7 +92,7 @@ fn push_param(
         function: number,
         index,
     });
-    push_into(alloc, facts, &param.target, &taken, out)?;
+    push_into_slot(alloc, facts, param, &taken, out)?;
     push_if_used(alloc, facts, number, &taken, out)
 }
 
@@ -171,4 +110,52 @@ fn push_if_used(
         return push_flow(alloc, taken, Vertex::Elem, out);
     }
     Ok(())
+}
+
+// What the rest parameter of the function with this number takes are elements.
+fn push_rest_param(
+    alloc: Global,
+    number: u32,
+    rest: Option<&Slot>,
+    out: &mut Vec<Flow>,
+) -> Result<(), OutOfMemory>
+    ensures { OnOk result (out.new.items ≡ out.old.items ++ seen.rest_param_flows number (option_map (λ s. s.now) rest.entry)) }
+{
+    match rest {
+        None => Ok(()),
+        Some(_) => {
+            let taken = Some(Vertex::Rest { function: number });
+            push_flow(alloc, &taken, Vertex::Elem, out)
+        }
+    }
+}
+
+// The value that an arrow gives, where it has no braces.
+fn push_arrow_value(
+    alloc: Global,
+    facts: &Facts<'_>,
+    value: Option<&Expr>,
+    number: u32,
+    out: &mut Vec<Flow>,
+) -> Result<(), OutOfMemory>
+    ensures { OnOk result (out.new.items ≡ out.old.items ++ seen.returned_flows (facts_in facts.now) number (option_map (λ x. x.now) value.entry)) }
+{
+    match value {
+        None => Ok(()),
+        Some(value) => push_result(alloc, facts, value, number, out),
+    }
+}
+
+/// Adds that a value comes to what the function with this number returns.
+pub(crate) fn push_result(
+    alloc: Global,
+    facts: &Facts<'_>,
+    value: &Expr,
+    number: u32,
+    out: &mut Vec<Flow>,
+) -> Result<(), OutOfMemory>
+    ensures { OnOk result (out.new.items ≡ out.old.items ++ seen.returned_flows (facts_in facts.now) number (Some value.now)) }
+{
+    let from = value_of(alloc, facts, value)?;
+    push_flow(alloc, &from, Vertex::Ret { function: number }, out)
 }

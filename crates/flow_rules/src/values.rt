@@ -11,9 +11,10 @@ use crate::Vertex;
 use crate::facts::{Facts, token_vertex};
 use jam_base::{OutOfMemory, Text};
 use js_scopes::{
-    Binding, Known, WrapperName, is_assignment, is_reflected, last_member, member_in, start_of,
+    Binding, Known, WrapperName, is_assignment, is_reflected, key_name, last_member, member_in,
+    start_of,
 };
-use js_tree::{Arm, Bracket, Element, Expr, Function, Further, Pattern, Tail, Token};
+use js_tree::{Arm, Bracket, Element, Expr, Function, Further, Key, Pattern, Tail, Token};
 use sqlite_items::Boxed;
 use std::alloc::Global;
 
@@ -272,6 +273,24 @@ fn member_vertex(of_module: bool, name: Text) -> Vertex
         return Vertex::Exports;
     }
     Vertex::Prop(name)
+}
+
+/// Where the values of the property with this key stand.
+pub(crate) fn key_vertex(alloc: Global, key: &Key) -> Result<Vertex, OutOfMemory>
+    ensures { IfOk result (λ v. v ≡ values.key_vertex key.now) }
+{
+    let name = key_name(alloc, key)?;
+    Ok(property_vertex(name))
+}
+
+// The same of a property of this name or none.
+fn property_vertex(name: Option<Text>) -> Vertex
+    ensures { result ≡ values.property_vertex name }
+{
+    match name {
+        None => Vertex::Elem,
+        Some(name) => Vertex::Prop(name),
+    }
 }
 
 // Where the values of a call stand.

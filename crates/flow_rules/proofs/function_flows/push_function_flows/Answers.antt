@@ -4,10 +4,10 @@ use Rattle.std.proofs.lemmas.List.{length-map}
 use Rattle.js_tree.specs.declared.tree.Function.{out-Function}
 use Rattle.js_tree.specs.Parts.{AFunction}
 use Rattle.js_tree.proofs.TextLemmas.{tokens_count}
-use Rattle.js_scopes.specs.Functions.{name_in, params_in, start_of}
+use Rattle.js_scopes.specs.Functions.{arrow_value, name_in, params_in, rest_in, start_of}
 use Rattle.js_scopes.proofs.OwnTokens.{params_owned}
 use Rattle.flow_rules.specs.AtHand.{facts_in}
-use Rattle.flow_rules.specs.Flows.{arrow_flows, named_flows, params_flows, rest_param_flows}
+use Rattle.flow_rules.specs.Flows.{named_flows, params_flows, rest_param_flows, returned_flows}
 use Rattle.flow_rules.proofs.function_flows.push_function_flows.Goals as goal
 
 pub push_params-requires : goal.push_params-requires
@@ -28,16 +28,21 @@ returns c =
     let f = c.args.function.now in
     let l = out-Function f in
     let k = facts.known.number (start_of f) in
+    let named = named_flows facts.known k (name_in l) in
+    let taken = params_flows facts k 0 (params_in l) in
+    let rest = rest_param_flows k (rest_in l) in
     let number : c.number-number.result ≡ k = c.number-number.ensures ∙ ap facts.known.number c.start_of.ensures in
-    let named : c.push_named.new.out.items ≡ out ++ named_flows facts.known k (name_in l) = c.in_ok-push_named.ensures {u = tt} ∙ (λ i. out ++ named_flows facts.known (number i) (c.own_name.ensures i)) in
     let params : map (λ s. s.now) c.as_slice.result.now ≡ params_in l = ap (map (λ s. s.now)) c.as_slice.ensures.value ∙ c.in_ok-params.ensures {u = tt} in
-    let N = named_flows facts.known k (name_in l) in
-    let P = params_flows facts k 0 (params_in l) in
-    let R = rest_param_flows k l in
-    let A = arrow_flows facts k l in
-    let taken = c.in_ok-push_params.ensures {u = tt} ∙ (λ i. named i ++ params_flows facts (number i) 0 (params i)) in
-    let rest = c.in_ok-push_rest_param.ensures {u = tt} ∙ (λ i. taken i ++ rest_param_flows (number i) l) in
-    on_ok_weaker c.push_arrow.result
-    (λ e. e ∙ (λ i. rest i ++ arrow_flows facts (number i) l)
-    ∙ ap (λ z. (z ++ R) ++ A) (append_assoc out N P) ∙ ap (λ z. z ++ A) (append_assoc out (N ++ P) R) ∙ append_assoc out (N ++ P ++ R) A)
-    c.push_arrow.ensures
+    let with_name : c.push_named.new.out.items ≡ out ++ named
+    = c.in_ok-push_named.ensures {u = tt} ∙ (λ i. out ++ named_flows facts.known (number i) (c.own_name.ensures i)) in
+    let with_params : c.push_params.new.out.items ≡ (out ++ named) ++ taken
+    = c.in_ok-push_params.ensures {u = tt} ∙ (λ i. with_name i ++ params_flows facts (number i) 0 (params i)) in
+    let with_rest : c.push_rest_param.new.out.items ≡ ((out ++ named) ++ taken) ++ rest
+    = c.in_ok-push_rest_param.ensures {u = tt} ∙ (λ i. with_params i ++ rest_param_flows (number i) (c.rest_of.ensures i)) in
+    let returned = returned_flows facts k (arrow_value l) in
+    on_ok_weaker c.push_arrow_value.result
+    (λ e. e ∙ (λ i. with_rest i ++ returned_flows facts (number i) (c.arrow_value.ensures i))
+    ∙ ap (λ xs. (xs ++ rest) ++ returned) (append_assoc out named taken)
+    ∙ ap (λ xs. xs ++ returned) (append_assoc out (named ++ taken) rest)
+    ∙ append_assoc out (named ++ taken ++ rest) returned)
+    c.push_arrow_value.ensures

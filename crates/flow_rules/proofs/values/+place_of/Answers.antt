@@ -21,11 +21,7 @@ returns-in-Paren t c =
     IfOk-weaker c.place_of.result _ _ (λ v e. e ∙ ap (place facts) c.get-in-Paren.ensures ∙ sym (ap (place facts) c.in-Paren.is ∙ place-Paren facts c.in-Paren.«open» c.in-Paren.inner c.in-Paren.close)) c.place_of.ensures
 
 pub returns-in-Array : goal.returns-in-Array
-returns-in-Array t c =
-    let facts = facts_in c.args.facts.now in
-    sym (ap (place facts) c.in-Array.is ∙ place-Array facts c.in-Array.slots)
+returns-in-Array t c = let facts = facts_in c.args.facts.now in sym (ap (place facts) c.in-Array.is ∙ place-Array facts c.in-Array.slots)
 
 pub returns-in-Object : goal.returns-in-Object
-returns-in-Object t c =
-    let facts = facts_in c.args.facts.now in
-    sym (ap (place facts) c.in-Object.is ∙ place-Object facts c.in-Object.properties)
+returns-in-Object t c = let facts = facts_in c.args.facts.now in sym (ap (place facts) c.in-Object.is ∙ place-Object facts c.in-Object.properties)
