@@ -21,7 +21,7 @@ use Rattle.js_parser.proofs.BeginLemmas.{no_kind_before}
 use Rattle.js_parser.proofs.ListLemmas.{AllOf, each-push, good-push, tallest-push}
 use Rattle.js_parser.proofs.PlaceLemmas.{passes_none, passes_on}
 use Rattle.js_parser.proofs.ReadLemmas.{IsWant}
-use Rattle.js_parser.specs.Brackets.{Puts}
+use Rattle.js_parser.specs.Brackets.{Puts, inside_height, last_height}
 use Rattle.js_parser.specs.Nodes.{NoMark}
 
 -- WHAT IS SEEN
@@ -35,14 +35,6 @@ pub within_seen : {X Y : Type 0} (test : Element Y → Bool) (f : X → Y) (b : 
 within_seen test f b = λ i. list_all-map (λ (x : Listed (Element _)). test x.item) (map_listed (map_element f)) b.front i && passes_seen test (map_element f) b.last i
 
 -- HEIGHTS
-
--- the height of the tallest item, or 0
-abbrev pub last_height : {X : Type 0} → (X → ℕ) → Option X → ℕ
-last_height height None = 0
-last_height height (Some x) = height x
-
-abbrev pub inside_height : {X : Type 0} → (X → ℕ) → List (Listed X) → Option X → ℕ
-inside_height height front last = max (tallest_of (λ x. height x.item) front) (last_height height last)
 
 module _ {Y : Type 0} (f : Y → ℕ) where
   abbrev taller : Y → ℕ → ℕ

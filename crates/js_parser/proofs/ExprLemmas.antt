@@ -40,6 +40,9 @@ list_low rank list = ⊎_elim (λ (z : rank ≡ 0). omega (arith, z)) (λ (b : (
 pub rests : (level : ℕ) (x : Value) (rest : List Piece) → level < NEW → Stops level rest → ValueStops level x rest
 rests level x rest low s = subst (λ (n : ℕ). Stops n rest) (sym (rests_at level (expr x.node).rank low)) s
 
+pub stops_of : (level : ℕ) (x : Value) (rest : List Piece) → level < NEW → ValueStops level x rest → Stops level rest
+stops_of level x rest low s = subst (λ (n : ℕ). Stops n rest) (rests_at level (expr x.node).rank low) s
+
 -- a value of a level is one of each lower level
 pub at_lower : (level lower room : ℕ) (x : Value) → lower ≤ level → ValueAt level room x → ValueAt lower room x
 at_lower level lower room x less at =

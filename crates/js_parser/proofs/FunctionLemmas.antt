@@ -30,7 +30,8 @@ use Rattle.js_tree.proofs.SpellingLemmas.{at-Keyword, function_layer, function_l
 use Rattle.js_tokens.specs.Ahead.{IsNextKind}
 use Rattle.js_tokens.specs.Pieces.{Reads}
 use Rattle.js_parser.proofs.BeginLemmas.{other_told}
-use Rattle.js_parser.proofs.BracketLemmas.{Good, bracket_good, bracket_tall, good_bracket, inside_height, within_seen}
+use Rattle.js_parser.proofs.BracketLemmas.{Good, bracket_good, bracket_tall, good_bracket, within_seen}
+use Rattle.js_parser.specs.Brackets.{inside_height}
 use Rattle.js_parser.proofs.SlotLemmas.{slot_of, slot_view}
 use Rattle.js_parser.specs.Nodes.{ParameterAt, block_line, init_height, init_line, parameters_line, slot_line}
 use Rattle.js_parser.specs.declared.tall.Tall.{Tall}

@@ -1,9 +1,93 @@
 -- Items by commas in brackets, as they are read.
-use Rattle.std.specs.Prelude.{◌≡◌, List, [], ◌∷◌, ◌++◌, Option, Some, None}
+use Rattle.std.specs.Prelude.{◌≡◌, ℕ, ◌≤◌, max, List, [], ◌∷◌, ◌++◌, Option, Some, None, Bool, true, false, ◌&&◌, Result}
+use Rattle.std.specs.List.{list_all}
+use Rattle.js_tree.specs.declared.lists.Element.{Element}
 use Rattle.js_tree.specs.declared.lists.Listed.{Listed}
 use Rattle.js_tree.specs.declared.token.Token.{Token}
+use Rattle.js_tree.specs.declared.token_kind.TokenKind.{TokenKind}
+use Rattle.js_tree.specs.declared.token_kind.TokenKind.TheVariants as kind
+use Rattle.js_tree.specs.declared.tree.Expr.{Expr}
+use Rattle.js_tree.specs.Lexing.{Place}
+use Rattle.js_tree.specs.Pieces.{Piece, Tok, Onto}
+use Rattle.js_tree.specs.Spelling.{expr, tallest_of}
+use Rattle.js_tree.specs.Spelling.Nodes.{ASSIGN, passes, pieces}
+use Rattle.js_tree.specs.Spelling.Rows.{each_of, element_row, listed_row, maybe}
+use Rattle.js_tree.specs.TokenKinds.{is}
+use Rattle.js_tokens.specs.Ahead.{reads}
+use Rattle.js_tokens.specs.declared.fault.TokenFault.{TokenFault}
+use Rattle.js_tokens.specs.declared.goal.Goal.TheVariants as goal
+use Rattle.js_parser.specs.declared.brackets.Inside.{Inside}
+use Rattle.js_parser.specs.declared.tall.Tall.{Tall}
+use Rattle.js_parser.specs.Following.{NoKind, Stops, strength}
+use Rattle.js_parser.specs.Nodes.{ReadsMaybe, argument_stands, expr_line}
 
 -- an item with a comma behind it goes to the end of the front, one without is the last
 abbrev pub Puts : {X : Type 0} → X → Option Token → List (Listed X) → Option X → List (Listed X) → Option X → Type 0
 Puts item (Some mark) front last front' last' = (front' ≡ front ++ record { item = item; mark = mark } ∷ []) × (last' ≡ last)
 Puts item None front last front' last' = (front' ≡ front) × (last' ≡ Some item)
+
+-- the height of the tallest item, or 0
+abbrev pub last_height : {X : Type 0} → (X → ℕ) → Option X → ℕ
+last_height height None = 0
+last_height height (Some x) = height x
+
+abbrev pub inside_height : {X : Type 0} → (X → ℕ) → List (Listed X) → Option X → ℕ
+inside_height height front last = max (tallest_of (λ x. height x.item) front) (last_height height last)
+
+-- a token of the kind stands before what follows
+abbrev pub Before : TokenKind → List Piece → Type 0
+Before k [] = ⊥
+Before k (x ∷ xs) = (t : Token) × (x ≡ Tok t (is k))
+
+-- of a bracket that closes: no expression goes on with it, and it is no comma
+pub record Closes (close : TokenKind) : Type 0 where
+  pub plain : reads goal.Operator close ≡ true
+  pub weak : (nl : Bool) → strength close nl ≡ 0
+  pub comma : is kind.Comma close ≡ false
+  pub some : is close kind.End ≡ false
+
+-- ITEMS
+
+-- what is asked of the items of a list: how each is spelled, which may stand, which may stand last with no comma behind
+-- them, and how tall each is
+pub record ItemKind (X : Type 0) : Type 0 where
+  pub line : X → Onto
+  pub stands : X → Bool
+  pub ends : X → Bool
+  pub tall : X → ℕ
+
+module _ {X : Type 0} (k : ItemKind X) where
+  -- an item that may stand, no taller than the room, with its height
+  pub record ItemAt (room : ℕ) (x : Tall X) : Type 0 where
+    pub good : k.stands x.node ≡ true
+    pub height : x.height ≡ k.tall x.node
+    pub fits : x.height ≤ room
+
+  -- no expression goes on, and a comma follows an item that may not be the last
+  abbrev pub AfterItem : X → List Piece → Type 0
+  AfterItem x rest = Stops ASSIGN rest × (k.ends x ≡ false → Before kind.Comma rest)
+
+  abbrev pub ReadsItem : ℕ → Place → Place → Result (Tall X) TokenFault → Type 0
+  ReadsItem room = ReadsMaybe (λ x. k.line x.node) (ItemAt room) (λ x. AfterItem x.node)
+
+  -- no item begins with the bracket that closes
+  abbrev pub BeginsElse : TokenKind → Type 0
+  BeginsElse close = (x : X) (rest : List Piece) → k.stands x ≡ true → AfterItem x rest → NoKind (is close) (k.line x rest)
+
+  -- ALL ITEMS
+
+  abbrev pub inside_line : Inside X → Onto
+  inside_line x rest = each_of (listed_row pieces k.line) x.front (maybe k.line x.last rest)
+
+  pub record InsideAt (room : ℕ) (x : Tall (Inside X)) : Type 0 where
+    pub each : list_all (λ y. k.stands y.item) x.node.front ≡ true
+    pub end : passes (λ y. k.stands y && k.ends y) x.node.last ≡ true
+    pub height : x.height ≡ inside_height k.tall x.node.front x.node.last
+    pub fits : x.height ≤ room
+
+  abbrev pub ReadsInside : TokenKind → ℕ → Place → Place → Result (Tall (Inside X)) TokenFault → Type 0
+  ReadsInside close room = ReadsMaybe (λ x. inside_line x.node) (InsideAt room) (λ x. Before close)
+
+-- arguments
+abbrev pub argument_kind : ItemKind (Element Expr)
+argument_kind = record { line = element_row pieces expr_line; stands = argument_stands; ends = λ x. true; tall = λ x. (expr x.value).height }

@@ -5,7 +5,6 @@ use Rattle.std.specs.Str.{bytes_eq}
 use Rattle.std.specs.declared.alloc.Global.{Global}
 use denote.Param.Members.{Shared}
 use denote.Ref.{MutBor}
-use Rattle.js_tree.specs.declared.lists.Arm.{Arm}
 use Rattle.js_tree.specs.declared.lists.Block.{Block}
 use Rattle.js_tree.specs.declared.lists.Bracket.{Bracket}
 use Rattle.js_tree.specs.declared.lists.Element.{Element}
@@ -20,7 +19,6 @@ use Rattle.js_tree.specs.declared.token_kind.TokenKind.{TokenKind}
 use Rattle.js_tree.specs.declared.token_kind.TokenKind.TheVariants as kind
 use Rattle.js_tree.specs.declared.tree.Expr.{Expr, out-Expr}
 use Rattle.js_tree.specs.declared.tree.Expr.TheOpen.{Expr-F}
-use Rattle.js_tree.specs.declared.tree.Pattern.{Pattern}
 use Rattle.js_tree.specs.declared.tree.Function.{Function}
 use Rattle.js_tree.specs.declared.tree.Slot.{Slot}
 use Rattle.js_tree.specs.declared.tree.Stmt.{Stmt}
@@ -29,11 +27,11 @@ use Rattle.js_tree.specs.Lexing.{Place}
 use Rattle.js_tree.specs.Pieces.{Piece, Tok, Ahead, Onto}
 use Rattle.js_tree.specs.Spelling.{expr, function, slot, stmt, stmts, stmts_height, tallest_of}
 use Rattle.js_tree.specs.Spelling.Functions.{parameter_fits}
-use Rattle.js_tree.specs.Operators.{is_assignment, on_line}
+use Rattle.js_tree.specs.Operators.{on_line}
 use Rattle.js_tree.specs.Spelling.Chains.{is_call}
 use Rattle.js_tree.specs.Spelling.Patterns.{DECLARED}
-use Rattle.js_tree.specs.Spelling.Nodes.{ASSIGN, COND, BINARY, POWER, UNARY, NEW, pieces, unmarked, stands, is_empty, all_within, passes}
-use Rattle.js_tree.specs.Spelling.Rows.{mark, each_of, maybe, init_row, arm_row, bracket_row, element_row, further_row, template_parts, template_row, tail_row}
+use Rattle.js_tree.specs.Spelling.Nodes.{ASSIGN, BINARY, POWER, UNARY, NEW, pieces, unmarked, stands, is_empty, all_within, passes}
+use Rattle.js_tree.specs.Spelling.Rows.{mark, each_of, maybe, init_row, bracket_row, element_row, further_row, template_parts, template_row, tail_row}
 use Rattle.js_tree.specs.TokenKinds.{is}
 use Rattle.js_tokens.specs.Pieces.{Reads, Read, OnlyRead, Gives, Moves, Refuses, Anywhere}
 use Rattle.js_tokens.specs.declared.fault.TokenFault.{TokenFault}
@@ -41,7 +39,6 @@ use Rattle.js_parser.specs.declared.grammar.Grammar.{Grammar}
 use Rattle.js_parser.specs.declared.tall.Tall.{Tall}
 use Rattle.js_parser.specs.declared.tall.Value.{Value}
 use Rattle.js_parser.specs.Following.{Stops, NoKind, Leads, rest_level, separates, begins_tail}
-use Rattle.js_parser.specs.Patterns.{Covers}
 
 -- LINES
 
@@ -173,65 +170,6 @@ ReadsOperands rank room = ReadsAs (λ x. each_of (further_line rank) x.node) (Op
 abbrev pub list_layer : ℕ → Expr → List (Further Expr) → ExprLayer
 list_layer rank first others = if rank == 0 then Expr-F.Comma first others else Expr-F.Binary (rank - 2) first others
 
--- WHAT FOLLOWS A FIRST EXPRESSION
-
--- what is said of a call that reads on behind an expression, from m to n: with the expression it is the answer, and
--- whatever could be read on is the answer
-pub record GoesOn (After : Value → Value → List Piece → List Piece → Type 0) (level room : ℕ) (head : Value) (m n : Place) (result : Result Value TokenFault) : Type 0 where
-  pub found : IfOk result (λ x. ((p : Place) → Read p (value_line head) m → Read p (value_line x) n) × ValueAt level room x)
-  pub only : (x : Value) (behind rest : List Piece) → After head x behind rest → ValueAt level room x → ValueStops level x rest → Reads m behind
-      → Gives result x (Reads n rest)
-  pub moves : Moves m n result
-  pub shorter : IfOk result (λ x. length n.left ≤ length m.left)
-
--- the expression alone, or a list of the rank whose first operand it is
-pub data Joins (rank : ℕ) (head x : Value) (behind rest : List Piece) : Type 0 where
-  Alone : x ≡ head → behind ≡ rest → Joins rank head x behind rest
-  First : (others : List (Further Expr)) → out-Expr x.node ≡ list_layer rank head.node others → list_all (further_stands rank) others ≡ true → is_empty others ≡ false
-      → behind ≡ each_of (further_line rank) others rest → Joins rank head x behind rest
-
--- the expression alone, or what is assigned to the pattern that it covers
-pub data AssignsTo (head x : Value) (behind rest : List Piece) : Type 0 where
-  Stays : x ≡ head → behind ≡ rest → AssignsTo head x behind rest
-  Assigns : (target : Pattern) (op : Token) (given : Expr) → out-Expr x.node ≡ Expr-F.Assign target op given → Covers head.node target
-      → behind ≡ Tok op is_assignment ∷ expr_line given rest → AssignsTo head x behind rest
-
-abbrev pub arm_line : Arm Expr → Onto
-arm_line = arm_row pieces expr_line
-
-abbrev pub arm_height : Arm Expr → ℕ
-arm_height x = max (expr x.test).height (expr x.value).height
-
--- with its height
-abbrev pub tall_arm : Arm Expr → Tall (Arm Expr)
-tall_arm x = record { node = x; height = arm_height x }
-
-abbrev pub arm_stands : Arm Expr → Bool
-arm_stands x = stands BINARY (expr x.test) && stands ASSIGN (expr x.value)
-
--- a choice whose first test is the expression
-pub record Chooses (head x : Value) (more rest : List Piece) : Type 0 where
-  pub question : Token
-  pub given : Expr
-  pub colon : Token
-  pub arms : List (Arm Expr)
-  pub last : Expr
-  pub is : out-Expr x.node ≡ Expr-F.Cond (record { test = head.node; question = question; value = given; colon = colon } ∷ arms) last
-  pub given_stands : stands ASSIGN (expr given) ≡ true
-  pub each : list_all arm_stands arms ≡ true
-  pub last_stands : stands ASSIGN (expr last) ≡ true
-  pub other : (expr last).rank ≡ COND → ⊥
-  pub behind : more ≡ mark pieces kind.Question question (expr_line given (mark pieces kind.Colon colon (each_of arm_line arms (expr_line last rest))))
-
--- what is said of a call that reads on behind a test, from m to n: with it the arm is the answer
-pub record ReadsArm (room : ℕ) (test : Value) (m n : Place) (result : Result (Tall (Arm Expr)) TokenFault) : Type 0 where
-  pub found : IfOk result (λ x. ((p : Place) → Read p (value_line test) m → Read p (arm_line x.node) n) × (arm_stands x.node ≡ true) × (x.height ≡ arm_height x.node))
-  pub only : (question : Token) (given : Expr) (colon : Token) (rest : List Piece) → stands ASSIGN (expr given) ≡ true → (expr given).height < room
-      → Reads m (mark pieces kind.Question question (expr_line given (mark pieces kind.Colon colon rest)))
-      → Gives result (tall_arm (record { test = test.node; question = question; value = given; colon = colon })) (Reads n rest)
-  pub moves : Moves m n result
-  pub shorter : IfOk result (λ x. length n.left < length m.left)
-
 -- ARGUMENTS AND TEMPLATES
 
 abbrev pub argument_stands : Element Expr → Bool
@@ -257,14 +195,6 @@ NoArguments x rest = is_some x.node ≡ false → NoKind (is kind.LeftParen) res
 
 abbrev pub ReadsMaybeArguments : ℕ → Place → Place → Result (Tall (Option (Bracket Expr))) TokenFault → Type 0
 ReadsMaybeArguments room = ReadsMaybe (λ x. maybe arguments_line x.node) (MaybeArgumentsAt room) NoArguments
-
-pub record ElementAt (room : ℕ) (x : Tall (Element Expr)) : Type 0 where
-  pub stands : argument_stands x.node ≡ true
-  pub height : x.height ≡ (expr x.node.value).height
-  pub fits : x.height ≤ room
-
-abbrev pub ReadsElement : ℕ → Place → Place → Result (Tall (Element Expr)) TokenFault → Type 0
-ReadsElement room = ReadsAs (λ x. element_row pieces expr_line x.node) (ElementAt room) (λ x. Stops ASSIGN)
 
 abbrev pub substitution_stands : Listed Expr → Bool
 substitution_stands x = stands 0 (expr x.item)

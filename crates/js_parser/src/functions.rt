@@ -64,7 +64,7 @@ fn parameters(
     let mut front = Items::new(alloc);
     let mut last = None;
     let mut height = 0;
-    'parameters: while goes_on(&last, reader.kind()) {
+    'parameters: while goes_on(&last, TokenKind::RightParen, reader.kind()) {
         let Tall {
             node: item,
             height: tall,

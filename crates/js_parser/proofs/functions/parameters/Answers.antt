@@ -11,7 +11,8 @@ use Rattle.js_tree.specs.declared.token_kind.TokenKind.TheVariants as kinds
 use Rattle.js_tree.specs.declared.tree.Slot.{Slot}
 use Rattle.js_tokens.specs.Ahead.{IsNextKind}
 use Rattle.js_parser.proofs.BeginLemmas.{other_told, with_mark}
-use Rattle.js_parser.proofs.BracketLemmas.{Goes, Within, both_not, closing, comma_refused, inside, inside_height, item_refused, not_both, puts_height, within_all, within_more, within_none}
+use Rattle.js_parser.proofs.BracketLemmas.{Goes, Within, both_not, closing, comma_refused, inside, item_refused, not_both, puts_height, within_all, within_more, within_none}
+use Rattle.js_parser.specs.Brackets.{inside_height}
 use Rattle.js_parser.proofs.FunctionLemmas.{IsParameter, good_parameters, no_parameter, parameter_at, parameter_height, parameter_line, parameters_good, parameters_tall, tall_parameter}
 use Rattle.js_parser.proofs.PlaceLemmas.{passes_none, passes_on}
 use Rattle.js_parser.proofs.ReadLemmas.{want, failed}

@@ -1,5 +1,6 @@
 use Rattle.std.proofs.Common.{◌≡◌, ◌≤◌, length}
-use Rattle.js_parser.proofs.BracketLemmas.{Within, inside_height}
+use Rattle.js_parser.proofs.BracketLemmas.{Within}
+use Rattle.js_parser.specs.Brackets.{inside_height}
 use Rattle.js_parser.proofs.FunctionLemmas.{IsParameter, parameter_height, parameter_line}
 use Rattle.js_parser.proofs.functions.parameters.Given as goal
 
