@@ -44,29 +44,29 @@ ReadsComma n q comma = ReadsMaybe (may_mark pieces kinds.Comma) (Any (Option Tok
 
 module _ {X : Type 0} (k : ItemKind X) (close : TokenKind) (room : ℕ) where
   -- an item may stand and is no taller than the room; it may be the last
-  abbrev Fits : X → Type 0
+  abbrev pub Fits : X → Type 0
   Fits x = (k.stands x ≡ true) × (k.tall x ≤ room)
 
-  abbrev FitsLast : X → Type 0
+  abbrev pub FitsLast : X → Type 0
   FitsLast x = Fits x × (k.ends x ≡ true)
 
-  abbrev LastFits : Option X → Type 0
+  abbrev pub LastFits : Option X → Type 0
   LastFits None = Unit {0}
   LastFits (Some x) = FitsLast x
 
-  record AllFit (front : List (Listed X)) (last : Option X) : Type 0 where
+  pub record AllFit (front : List (Listed X)) (last : Option X) : Type 0 where
     pub each : AllOf (λ (x : Listed X). Fits x.item) front
     pub end : LastFits last
 
-  abbrev inside : List (Listed X) → Option X → Onto
+  abbrev pub inside : List (Listed X) → Option X → Onto
   inside front last rest = each_of (listed_row pieces k.line) front (maybe k.line last rest)
 
   -- the bracket that closes, in front of what follows
-  abbrev closing : Token → Onto
+  abbrev pub closing : Token → Onto
   closing t more = Tok t (is close) ∷ more
 
   -- what is left of items whose front and last were read
-  abbrev Remains : List (Listed X) → Option X → Place → List (Listed X) → Option X → List Piece → Type 0
+  abbrev pub Remains : List (Listed X) → Option X → Place → List (Listed X) → Option X → List Piece → Type 0
   Remains front None m xs l behind = (ys : List (Listed X)) × (xs ≡ front ++ ys) × Reads m (inside ys l behind) × AllFit ys l
   Remains front (Some x) m xs l behind = (xs ≡ front) × (l ≡ Some x) × Reads m behind
 
@@ -243,9 +243,9 @@ module _ {X : Type 0} (k : ItemKind X) (close : TokenKind) (room : ℕ) where
     pub all_read : (p m : Place) (front : List (Listed X)) (last : Option X) (asked : TokenKind) → IsNextKind m asked → (is_some last ≡ false → is close asked ≡ true) → BeginsElse k close → AreRead p front last m
         → (x : Tall (Inside X)) (rest : List Piece) → CanBeRead p x rest → (front ≡ x.node.front) × (last ≡ x.node.last) × Reads m rest
     unfolding AllOf
-    all_read p m front (Some y) asked next here else done x rest can = by_bracket p x rest can (λ t more same r fit.
+    all_read p m front (Some y) asked next here begins done x rest can = by_bracket p x rest can (λ t more same r fit.
         let a = done.only x.node.front x.node.last t more r fit in (sym a.0, sym a.1, subst (Reads m) (sym same) a.2))
-    all_read p m front None asked next here else done x rest can = by_bracket p x rest can (λ t more same r fit.
+    all_read p m front None asked next here begins done x rest can = by_bracket p x rest can (λ t more same r fit.
         let a = done.only x.node.front x.node.last t more r fit in
         let w = whole x.node.front t more x.node.last a.0 a.1 a.2 a.3 in
         (w.0, w.1, subst (Reads m) (sym same) w.2))
@@ -253,7 +253,7 @@ module _ {X : Type 0} (k : ItemKind X) (close : TokenKind) (room : ℕ) where
         never : (y : X) (rest : List Piece) → Reads m (k.line y rest) → Fits y → AfterItem k y rest → ⊥
         never y rest r fit after =
             let t = next_of close closes.some m asked next (here refl) in
-            true≢false (sym (ap (is close) t.3 ∙ is_itself close) ∙ else y rest fit.0 after m r t.0 t.1 t.2 (ap (reads goal.Operator) t.3 ∙ closes.plain))
+            true≢false (sym (ap (is close) t.3 ∙ is_itself close) ∙ begins y rest fit.0 after m r t.0 t.1 t.2 (ap (reads goal.Operator) t.3 ∙ closes.plain))
 
         whole : (xs : List (Listed X)) (t : Token) (more : List Piece) (l : Option X) (ys : List (Listed X)) → xs ≡ front ++ ys → Reads m (inside ys l (closing t more)) → AllFit ys l
             → (front ≡ xs) × (◌≡◌ {A = Option X} None l) × Reads m (closing t more)
@@ -270,10 +270,10 @@ open_end (Some x) e = absurd (true≢false e)
 pub puts_fewer : {X : Type 0} (item : X) (comma : Option Token) (front : List (Listed X)) (last : Option X) (front' : List (Listed X)) (last' : Option X) (old new : ℕ) → Puts item comma front last front' last'
     → is_some last ≡ false → new ≤ old → (is_some comma ≡ true → new < old) → new + (if is_some last' then 0 else 1) < old + (if is_some last then 0 else 1)
 puts_fewer {X} item None front last front' last' old new puts none le less =
-    let a : (if is_some last' then 0 else 1) ≡ 0 = ap (λ (o : Option X). if is_some o then 0 else 1) puts.1 in
-    let b : (if is_some last then 0 else 1) ≡ 1 = ap (λ (c : Bool). if c then 0 else 1) none in
+    let a : ◌≡◌ {A = ℕ} (if is_some last' then 0 else 1) 0 = ap (λ (o : Option X). if is_some o then 0 else 1) puts.1 in
+    let b : ◌≡◌ {A = ℕ} (if is_some last then 0 else 1) 1 = ap (λ (c : Bool). if c then 0 else 1) none in
     omega (arith, a, b, le)
 puts_fewer {X} item (Some t) front last front' last' old new puts none le less =
-    let b : (if is_some last then 0 else 1) ≡ 1 = ap (λ (c : Bool). if c then 0 else 1) none in
-    let a : (if is_some last' then 0 else 1) ≡ 1 = ap (λ (o : Option X). if is_some o then 0 else 1) puts.1 ∙ b in
+    let b : ◌≡◌ {A = ℕ} (if is_some last then 0 else 1) 1 = ap (λ (c : Bool). if c then 0 else 1) none in
+    let a : ◌≡◌ {A = ℕ} (if is_some last' then 0 else 1) 1 = ap (λ (o : Option X). if is_some o then 0 else 1) puts.1 ∙ b in
     omega (arith, a, b, less refl)

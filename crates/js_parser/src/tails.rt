@@ -44,6 +44,7 @@ fn is_eval_name(head: &Expr) -> bool
 }
 
 // What reads arguments.
+#[derive(Drop)]
 struct Arguments<'g, E, S> {
     rules: &'g Grammar<E, S>,
 }
@@ -58,9 +59,9 @@ impl<
 
     ghost kind = { argument_kind };
 
-    ghost room = { λ by. by.rules.room - 1 };
+    ghost room = { λ by. by.rules.now.room - 1 };
 
-    ghost may_read = { λ by. Knot E.Fn S.Fn by.rules × (0 < by.rules.room) };
+    ghost may_read = { λ by. Knot E.Fn S.Fn by.rules.now × (0 < by.rules.now.room) };
 
     fn item(
         &self,

@@ -1,5 +1,6 @@
 use Rattle.std.proofs.Common.{◌-◌, refl, sym, ◌∙◌, subst, arith}
 use Rattle.std.proofs.lemmas.Bool.{and_parts}
+use Rattle.js_tree.specs.Spelling.{expr}
 use Rattle.js_tree.specs.declared.token_kind.TokenKind.TheVariants as kinds
 use Rattle.js_tree.specs.declared.tree.Expr.TheOpen.{Expr-F}
 use Rattle.js_tree.specs.declared.tree.Expr.TheVariants.{rolls-Power}
@@ -19,7 +20,7 @@ use Rattle.js_parser.proofs.grammar.Grammar.power_behind.Goals as goal
 
 pub returns-then-base-lt15 : goal.returns-then-base-lt15
 returns-then-base-lt15 g c = record {
-  reads = stays 14 13 _ _ _ (omega arith) c.requires.first (λ x behind rest w r. omega (arith, c.requires.first.rank, c.if-base-lt15.true, at_least 15 _ (and_parts _ _ w.base).1));
+  reads = stays 14 13 _ _ _ (omega arith) c.requires.first (λ x behind rest w r. omega (arith, c.requires.first.rank, c.if-base-lt15.true, at_least 15 (expr c.args.base.node).rank (and_parts _ _ w.base).1));
 }
 
 pub returns-then-next_strength-ne14 : goal.returns-then-next_strength-ne14
