@@ -1,5 +1,5 @@
 -- Chains: what is asked of tails and arguments, their heights, and what stands behind a head.
-use Rattle.std.proofs.Common.{◌≡◌, ◌⊎◌, inl, inr, ℕ, ◌+◌, ◌-◌, ◌<◌, ◌≤◌, ◌==◌, max, Bool, true, false, ◌&&◌, ◌||◌, not, List, [], ◌∷◌, map, refl, sym, ap, ◌∙◌, subst, arith, true≢false, if◌then◌else◌}
+use Rattle.std.proofs.Common.{◌≡◌, ℕ, ◌+◌, ◌-◌, ◌≤◌, ◌==◌, max, Bool, true, false, ◌&&◌, ◌||◌, not, List, [], ◌∷◌, map, refl, sym, ap, ◌∙◌, subst, arith, true≢false, if◌then◌else◌}
 use Rattle.std.specs.Prelude.{nat_le, codes, Option, Some, None, is_some}
 use Rattle.std.specs.List.{list_all, list_any}
 use Rattle.std.proofs.lemmas.Bool.{and_parts, false_from_ne_true, le-leb, leb-true, not-true, or_parts}
@@ -10,7 +10,6 @@ use Rattle.js_tree.specs.declared.lists.Element.{Element}
 use Rattle.js_tree.specs.declared.lists.Listed.{Listed}
 use Rattle.js_tree.specs.declared.lists.Tail.{Tail}
 use Rattle.js_tree.specs.declared.lists.Tail.TheVariants as tail
-use Rattle.js_tree.specs.declared.lists.Template.{Template}
 use Rattle.js_tree.specs.declared.token_kind.TokenKind.{TokenKind}
 use Rattle.js_tree.specs.declared.token_kind.TokenKind.TheVariants as kinds
 use Rattle.js_tree.specs.declared.tree.Expr.{Expr, out-Expr, roll-Expr}
@@ -26,7 +25,7 @@ use Rattle.js_tree.specs.TokenKinds.{is}
 use Rattle.js_tree.proofs.Folds.{map_maybe, map_listed, map_bracket, map_tail, layer-Chain}
 use Rattle.js_tree.proofs.KindLemmas.{every, is_itself, is_same}
 use Rattle.js_tree.proofs.RowLemmas.{tails_map}
-use Rattle.js_tree.proofs.SpellingLemmas.{at_expr, at-Chain, expr_layer, seen_lines}
+use Rattle.js_tree.proofs.SpellingLemmas.{at-Chain, seen_lines}
 use Rattle.js_tokens.specs.Ahead.{IsNextKind, reads}
 use Rattle.js_tokens.specs.Pieces.{Read, Reads}
 use Rattle.js_tokens.specs.declared.goal.Goal.TheVariants as goal
@@ -41,8 +40,7 @@ use Rattle.js_parser.proofs.TailLemmas.{as_call, begins, tail_begins}
 use Rattle.js_parser.proofs.TokenLemmas.{implies}
 use Rattle.js_parser.specs.Behind.{AloneOr, Alone, With, TakesTails}
 use Rattle.js_parser.specs.Following.{NoKind, Stops, begins_tail, rest_level, strength}
-use Rattle.js_parser.specs.Nodes.{IsSeen, TailsAt, ValueAt, ValueStops, argument_stands, expr_line, higher, may_call, substitution_stands, tail_height, tail_stands, tails_line, value_line}
-use Rattle.js_parser.specs.declared.kinds.Primary.TheVariants as sorts
+use Rattle.js_parser.specs.Nodes.{IsSeen, TailsAt, ValueAt, argument_stands, expr_line, higher, may_call, substitution_stands, tail_height, tail_stands, tails_line, value_line}
 use Rattle.js_parser.specs.declared.tall.Tall.{Tall}
 use Rattle.js_parser.specs.declared.tall.Value.{Value}
 

@@ -1,5 +1,5 @@
 -- Expressions as values.
-use Rattle.std.proofs.Common.{◌≡◌, ℕ, ◌+◌, ◌≤◌, ◌<◌, ◌==◌, true, false, Bool, ◌&&◌, refl, sym, ap, ◌∙◌, arith, subst, List, length, Result, Ok, Err, ⊎_elim, ◌⊎◌, if◌then◌else◌}
+use Rattle.std.proofs.Common.{◌≡◌, ℕ, ◌+◌, ◌≤◌, ◌<◌, ◌==◌, true, false, Bool, ◌&&◌, refl, sym, ap, ◌∙◌, arith, subst, List, length, Result, Ok, Err, ⊎_elim, if◌then◌else◌}
 use Rattle.std.proofs.lemmas.Bool.Decides.{nat_tests}
 use Rattle.js_tree.specs.Pieces.{Piece}
 use Rattle.js_tree.specs.Spelling.{expr}

@@ -1,5 +1,5 @@
 -- Items by commas in brackets, item by item.
-use Rattle.std.proofs.Common.{◌≡◌, ℕ, ◌≤◌, ◌+◌, ◌<◌, max, Bool, true, false, ◌&&◌, not, List, [], ◌∷◌, ◌++◌, Option, Some, None, is_some, Ok, Err, refl, sym, ap, ◌∙◌, subst, arith, append-nil, append_assoc, true≢false, if◌then◌else◌}
+use Rattle.std.proofs.Common.{◌≡◌, ℕ, ◌≤◌, ◌+◌, ◌<◌, Bool, true, false, ◌&&◌, List, [], ◌∷◌, ◌++◌, Option, Some, None, is_some, Ok, Err, refl, sym, ap, ◌∙◌, subst, arith, append-nil, append_assoc, true≢false, if◌then◌else◌}
 use Rattle.std.proofs.lemmas.Bool.{and_from, and_parts}
 use Rattle.std.specs.List.{list_all}
 use Rattle.js_tree.specs.declared.lists.Listed.{Listed}
@@ -19,7 +19,7 @@ use Rattle.js_tokens.specs.declared.fault.TokenFault.{TokenFault}
 use Rattle.js_tokens.specs.declared.fault.TokenFault.TheVariants as fault
 use Rattle.js_tokens.specs.declared.goal.Goal.TheVariants as goal
 use Rattle.js_parser.proofs.BeginLemmas.{next_of, no_kind_before, other_told, stops_before}
-use Rattle.js_parser.proofs.ListLemmas.{AllOf, each-push, good-push, tallest-push}
+use Rattle.js_parser.proofs.ListLemmas.{AllOf, each-push, good-push}
 use Rattle.js_parser.proofs.PlaceLemmas.{passes_none, passes_on}
 use Rattle.js_parser.proofs.ReadLemmas.{IsWant, want}
 use Rattle.js_parser.specs.Brackets.{AfterItem, Before, BeginsElse, Closes, InsideAt, ItemAt, ItemKind, Puts, ReadsItem, inside_height, inside_line, last_height}

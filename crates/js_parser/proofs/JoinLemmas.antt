@@ -12,7 +12,7 @@ use Rattle.js_tree.specs.Lexing.{Place}
 use Rattle.js_tree.specs.Operators.{is_binary}
 use Rattle.js_tree.specs.Pieces.{Piece, Onto}
 use Rattle.js_tree.specs.Spelling.{expr}
-use Rattle.js_tree.specs.Spelling.Nodes.{Seen, ASSIGN, BINARY, POWER, NEW, LEVELS, all_further, binary_rank, is_empty, pieces, stands}
+use Rattle.js_tree.specs.Spelling.Nodes.{Seen, ASSIGN, BINARY, POWER, LEVELS, all_further, binary_rank, is_empty, pieces, stands}
 use Rattle.js_tree.specs.Spelling.Rows.{each_of, further_row}
 use Rattle.js_tree.specs.TokenKinds.{is as is_kind}
 use Rattle.js_tree.proofs.SpellingLemmas.{at_expr}
@@ -27,7 +27,7 @@ use Rattle.js_parser.proofs.OperandLemmas.{operand_stops}
 use Rattle.js_parser.proofs.TokenLemmas.{equal, separates_plain, separates_strength}
 use Rattle.js_parser.specs.Behind.{AloneOr, Alone, With, GoesOn, Joins, JoinsFrom, JoinsNone, JoinsMore, Through}
 use Rattle.js_parser.specs.Following.{IsStrength, Stops}
-use Rattle.js_parser.specs.Nodes.{IsListRank, is_level, IsSeen, OperandsAt, ValueAt, ValueStops, expr_line, further_height, further_line, further_stands, list_layer, value_line}
+use Rattle.js_parser.specs.Nodes.{IsListRank, is_level, IsSeen, OperandsAt, ValueAt, ValueStops, expr_line, further_height, further_line, further_stands, list_layer}
 use Rattle.js_parser.specs.declared.tall.Value.{Value}
 
 -- THE LAYER OF A LIST

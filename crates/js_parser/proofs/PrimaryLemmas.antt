@@ -1,14 +1,11 @@
 -- With which primary an expression begins.
-use Rattle.std.proofs.Common.{◌≡◌, ℕ, Bool, false, ◌&&◌, List, Ok, sym, ap, ◌∙◌, arith}
+use Rattle.std.proofs.Common.{◌≡◌, ℕ, Bool, false, ◌&&◌, List, Ok, ap, arith}
 use Rattle.std.specs.Prelude.{codes}
-use Rattle.js_tree.specs.declared.lists.Tail.{Tail}
 use Rattle.js_tree.specs.declared.token_kind.TokenKind.{TokenKind}
-use Rattle.js_tree.specs.declared.tree.Expr.{Expr}
 use Rattle.js_tree.specs.declared.tree.Expr.TheOpen.{Expr-F}
 use Rattle.js_tree.specs.Lexing.{Place}
 use Rattle.js_tree.specs.Operators.{is_unary}
 use Rattle.js_tree.specs.Pieces.{Piece}
-use Rattle.js_tree.specs.Spelling.{expr}
 use Rattle.js_tree.specs.Spelling.Chains.{calls}
 use Rattle.js_tree.specs.Spelling.Nodes.{ASSIGN, BINARY, POWER, UNARY, POSTFIX, CHAIN, NEW, is_named}
 use Rattle.js_tree.proofs.SpellingLemmas.{at_expr}

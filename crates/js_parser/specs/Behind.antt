@@ -1,5 +1,5 @@
 -- What is read on behind a first expression.
-use Rattle.std.specs.Prelude.{◌≡◌, ℕ, ◌+◌, ◌≤◌, ◌<◌, max, List, [], ◌∷◌, length, Result, IfOk, Bool, true, false, ◌&&◌, codes}
+use Rattle.std.specs.Prelude.{◌≡◌, ℕ, ◌+◌, ◌≤◌, ◌<◌, max, List, ◌∷◌, length, Result, IfOk, Bool, true, false, ◌&&◌, codes}
 use Rattle.std.specs.List.{list_all}
 use Rattle.js_tree.specs.declared.lists.Arm.{Arm}
 use Rattle.js_tree.specs.declared.lists.Further.{Further}

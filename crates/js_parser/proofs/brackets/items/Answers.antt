@@ -1,10 +1,10 @@
-use Rattle.std.proofs.Common.{◌≡◌, ◌+◌, ◌-◌, ℕ, max, Bool, false, true, not, refl, sym, ap, ◌∙◌, subst, arith, List, Option, None, Some, is_some}
+use Rattle.std.proofs.Common.{max, refl, sym, ap, ◌∙◌, subst, arith, List, Option, None}
 use Rattle.js_tree.specs.declared.lists.Listed.{Listed}
 use Rattle.js_tokens.specs.declared.fault.TokenFault.TheVariants as fault
 use Rattle.js_parser.proofs.BracketLemmas.{both_not, not_both, puts_height}
 use Rattle.js_parser.proofs.ItemLemmas.{AreRead, all_read, comma_lacks, comma_refused, inside_at, item_refused, none_read, one_more, open_end, puts_fewer}
 use Rattle.js_parser.proofs.PlaceLemmas.{passes_none, passes_on}
-use Rattle.js_parser.proofs.ReadLemmas.{want, failed_maybe}
+use Rattle.js_parser.proofs.ReadLemmas.{failed_maybe}
 use Rattle.js_parser.specs.Brackets.{Puts, inside_height}
 use Rattle.js_parser.proofs.brackets.items.Goals as goal
 

@@ -1,4 +1,4 @@
-use Rattle.std.proofs.Common.{◌≡◌, ℕ, ◌≤◌, ◌+◌, length, is_some, if◌then◌else◌}
+use Rattle.std.proofs.Common.{◌≡◌, ◌≤◌, ◌+◌, length, is_some, if◌then◌else◌}
 use Rattle.js_parser.proofs.ItemLemmas.{AreRead}
 use Rattle.js_parser.specs.Brackets.{inside_height}
 use Rattle.js_parser.proofs.brackets.items.Given as goal

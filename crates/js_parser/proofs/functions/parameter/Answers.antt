@@ -1,4 +1,4 @@
-use Rattle.std.proofs.Common.{◌≡◌, ◌-◌, sym, ◌∙◌, arith, None}
+use Rattle.std.proofs.Common.{◌≡◌, sym, ◌∙◌, arith, None}
 use Rattle.js_tree.specs.declared.token_kind.TokenKind.TheVariants as kinds
 use Rattle.js_parser.proofs.BeginLemmas.{with_mark}
 use Rattle.js_parser.proofs.FunctionLemmas.{parameter_view}

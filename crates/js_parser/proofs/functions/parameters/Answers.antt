@@ -1,5 +1,5 @@
 use Rattle.js_tokens.specs.declared.fault.TokenFault.TheVariants as fault
-use Rattle.std.proofs.Common.{◌≡◌, ◌-◌, ℕ, max, refl, sym, ap, ◌∙◌, subst, arith, List, None, false, true}
+use Rattle.std.proofs.Common.{◌≡◌, ℕ, max, refl, sym, ap, ◌∙◌, subst, arith, List, None, false}
 use Rattle.js_tree.specs.Lexing.{Place}
 use Rattle.js_tree.specs.Pieces.{Onto}
 use Rattle.js_tree.specs.TokenKinds.{is}

@@ -1,4 +1,4 @@
-use Rattle.std.proofs.Common.{Option, Some, true, false, sym, ap, ◌∙◌, subst, arith, true≢false}
+use Rattle.std.proofs.Common.{Option, Some, sym, ap, ◌∙◌, subst, arith, true≢false}
 use Rattle.js_tree.specs.Spelling.Nodes.{pieces}
 use Rattle.js_tree.specs.Spelling.Rows.{may_mark}
 use Rattle.js_tree.specs.declared.token.Token.{Token}

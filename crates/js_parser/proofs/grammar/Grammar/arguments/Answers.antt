@@ -1,4 +1,4 @@
-use Rattle.std.proofs.Common.{◌≡◌, ◌-◌, refl, sym, ap, ◌∙◌, arith}
+use Rattle.std.proofs.Common.{refl, arith}
 use Rattle.js_tree.specs.declared.lists.Bracket.{Bracket}
 use Rattle.js_tree.specs.declared.token_kind.TokenKind.TheVariants as kinds
 use Rattle.js_tree.specs.declared.tree.Expr.{Expr}

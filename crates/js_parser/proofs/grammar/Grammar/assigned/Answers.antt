@@ -1,4 +1,4 @@
-use Rattle.std.proofs.Common.{◌≡◌, ◌-◌, ◌∷◌, max, refl, sym, ◌∙◌, subst, arith, true≢false}
+use Rattle.std.proofs.Common.{◌≡◌, ◌∷◌, max, refl, sym, ◌∙◌, subst, arith, true≢false}
 use Rattle.js_tree.specs.Operators.{is_assignment}
 use Rattle.js_tree.specs.Pieces.{Tok}
 use Rattle.js_tree.specs.declared.tree.Expr.TheOpen.{Expr-F}

@@ -1,4 +1,4 @@
-use Rattle.std.proofs.Common.{◌-◌, arith}
+use Rattle.std.proofs.Common.{arith}
 use Rattle.js_parser.proofs.ExprLemmas.{at_lower}
 use Rattle.js_parser.proofs.LeadLemmas.{fails_through, goes_through, handed}
 use Rattle.js_parser.proofs.grammar.Grammar.behind_primary.Goals as goal

@@ -1,4 +1,4 @@
-use Rattle.std.proofs.Common.{◌-◌, subst}
+use Rattle.std.proofs.Common.{subst}
 use Rattle.js_parser.proofs.ChoiceLemmas.{to_assigned, to_choice}
 use Rattle.js_parser.proofs.LeadLemmas.{goes_as}
 use Rattle.js_parser.specs.Following.{IsStrength}

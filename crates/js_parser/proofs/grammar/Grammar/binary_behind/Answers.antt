@@ -1,4 +1,4 @@
-use Rattle.std.proofs.Common.{◌≡◌, ◌-◌, ℕ, Ok, inr, refl, subst, arith}
+use Rattle.std.proofs.Common.{◌≡◌, ◌-◌, ℕ, Ok, refl, subst, arith}
 use Rattle.js_parser.proofs.JoinLemmas.{fails_below, goes_below, joins_none}
 use Rattle.js_parser.proofs.LeadLemmas.{handed, stays_on}
 use Rattle.js_parser.specs.Behind.{GoesOn, JoinsFrom}

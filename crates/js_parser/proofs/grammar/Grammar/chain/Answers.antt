@@ -1,4 +1,4 @@
-use Rattle.std.proofs.Common.{◌≡◌, ◌-◌, sym, ap, ◌∙◌, true, false, ◌&&◌, arith}
+use Rattle.std.proofs.Common.{sym, ap, ◌∙◌, ◌&&◌}
 use Rattle.std.proofs.lemmas.Bool.{and_parts}
 use Rattle.std.specs.Prelude.{codes}
 use Rattle.js_tree.specs.Spelling.{expr}
@@ -9,7 +9,6 @@ use Rattle.js_tree.specs.declared.tree.Expr.{Expr}
 use Rattle.js_parser.proofs.ChainLemmas.{chain_view, eval_called, not_direct}
 use Rattle.js_parser.proofs.LeadLemmas.{first_failed, first_read, followed}
 use Rattle.js_parser.proofs.ReadLemmas.{refused_here}
-use Rattle.js_parser.specs.declared.tall.Value.{Value}
 use Rattle.js_parser.proofs.grammar.Grammar.chain.Goals as goal
 
 pub returns-in_err-head : goal.returns-in_err-head

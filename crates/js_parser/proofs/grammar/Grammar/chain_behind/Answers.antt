@@ -1,4 +1,4 @@
-use Rattle.std.proofs.Common.{◌≡◌, ◌-◌, sym, ap, ◌∙◌, true, false, arith, List}
+use Rattle.std.proofs.Common.{sym, ap, ◌∙◌, arith, List}
 use Rattle.js_tree.specs.Spelling.Nodes.{is_empty}
 use Rattle.js_tree.specs.declared.lists.Tail.{Tail}
 use Rattle.js_tree.specs.declared.tree.Expr.TheVariants.{rolls-Chain}

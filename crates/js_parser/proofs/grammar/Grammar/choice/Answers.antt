@@ -1,4 +1,4 @@
-use Rattle.std.proofs.Common.{◌≡◌, ◌+◌, ◌-◌, [], ◌∷◌, ◌++◌, max, sym, ap, ◌∙◌, subst, arith, List, true≢false}
+use Rattle.std.proofs.Common.{◌≡◌, [], ◌∷◌, ◌++◌, max, sym, ap, ◌∙◌, subst, arith, List, true≢false}
 use Rattle.js_tree.specs.Spelling.{tallest_of}
 use Rattle.js_tree.specs.Spelling.Nodes.{is_empty}
 use Rattle.js_tree.specs.declared.lists.Arm.{Arm}

@@ -1,4 +1,4 @@
-use Rattle.std.proofs.Common.{◌+◌, ◌-◌, ◌<◌, max, sym, ap, ◌∙◌, subst, arith, List}
+use Rattle.std.proofs.Common.{◌<◌, max, sym, ap, ◌∙◌, subst, arith, List}
 use Rattle.js_tree.specs.Spelling.Nodes.{NEW}
 use Rattle.js_tree.specs.declared.lists.Further.{Further}
 use Rattle.js_tree.specs.declared.tree.Expr.{Expr, roll-Expr}

@@ -1,4 +1,3 @@
-use Rattle.std.proofs.Common.{◌-◌}
 use Rattle.js_parser.proofs.FormLemmas.{postfix_view}
 use Rattle.js_parser.proofs.LeadLemmas.{first_failed, followed}
 use Rattle.js_parser.proofs.grammar.Grammar.postfix.Goals as goal

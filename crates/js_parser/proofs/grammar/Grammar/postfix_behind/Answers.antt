@@ -1,4 +1,4 @@
-use Rattle.std.proofs.Common.{◌-◌, not, refl, sym, ap, ◌∙◌, subst, arith, true≢false}
+use Rattle.std.proofs.Common.{not, refl, sym, ap, ◌∙◌, subst, arith, true≢false}
 use Rattle.js_tree.specs.declared.tree.Expr.TheOpen.{Expr-F}
 use Rattle.js_tree.specs.declared.tree.Expr.TheVariants.{rolls-Postfix}
 use Rattle.js_tree.specs.declared.tree.Expr.{roll-Expr}
