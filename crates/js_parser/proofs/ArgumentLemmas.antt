@@ -19,22 +19,14 @@ use Rattle.js_tokens.specs.Ahead.{IsNextKind, reads}
 use Rattle.js_tokens.specs.Pieces.{Reads}
 use Rattle.js_tokens.specs.declared.goal.Goal.TheVariants as goal
 use Rattle.js_parser.proofs.BeginLemmas.{begins_expr, blind_expr, expr_begins, next_of, no_kind_before, other_told}
-use Rattle.js_parser.proofs.BracketLemmas.{bracket_tall}
-use Rattle.js_parser.specs.Brackets.{BeginsElse, Closes, InsideAt, argument_kind, inside_height, inside_line}
-use Rattle.js_parser.specs.declared.brackets.Inside.{Inside}
+use Rattle.js_parser.proofs.BracketLemmas.{as_bracket, enclosed_of, in_brackets}
+use Rattle.js_parser.specs.Brackets.{BeginsElse, EnclosedAt, argument_kind}
 use Rattle.js_parser.specs.Following.{NoKind}
 use Rattle.js_parser.specs.Nodes.{ArgumentsAt, MaybeArgumentsAt, NoArguments, argument_stands, arguments_line, expr_line, higher}
 use Rattle.js_parser.specs.declared.tall.Tall.{Tall}
 
 abbrev pub argument_line : Element Expr → List Piece → List Piece
 argument_line = element_row pieces expr_line
-
-abbrev pub argument_height : Element Expr → ℕ
-argument_height x = (expr x.value).height
-
--- the height of arguments as the rows have it
-pub arguments_tall : (b : Bracket Expr) → bracket_row unmarked higher b 0 ≡ inside_height argument_height b.front b.last
-arguments_tall b = let e = bracket_tall (λ (x : Expr). (expr x).height) b 0 in omega (arith, e)
 
 -- before an expression no token stands with which none begins
 pub no_kind_expr : (k : TokenKind) → begins_expr k ≡ false → (x : Expr) (rest : List Piece) → NoKind (is k) (expr_line x rest)
@@ -48,9 +40,6 @@ no_kind_expr k other x rest m r t n next read = by_test (is k (kind_of t)) refl
 
 -- ARGUMENTS IN THEIR BRACKETS
 
-pub closes_paren : Closes kinds.RightParen
-closes_paren = record { plain = refl; weak = λ nl. refl; comma = refl; some = refl }
-
 -- no argument begins with `)`
 pub arguments_else : BeginsElse argument_kind kinds.RightParen
 arguments_else x rest good after = by_dots x.dots
@@ -59,29 +48,11 @@ arguments_else x rest good after = by_dots x.dots
     by_dots None = no_kind_expr kinds.RightParen refl x.value rest
     by_dots (Some t) = no_kind_before (is kinds.RightParen) kinds.Dots refl refl t (expr_line x.value rest)
 
--- arguments without their brackets
-abbrev pub tall_inside : Tall (Bracket Expr) → Tall (Inside (Element Expr))
-tall_inside x = record { node = record { front = x.node.front; last = x.node.last }; height = x.height }
+pub inside_arguments : (room : ℕ) (x : Tall (Bracket Expr)) → ArgumentsAt room x → EnclosedAt argument_kind room (enclosed_of x)
+inside_arguments = in_brackets expr_line argument_stands (λ (x : Expr). (expr x).height)
 
--- what stands behind `(`
-abbrev pub behind_open : Tall (Bracket Expr) → Onto
-behind_open x rest = inside_line argument_kind (tall_inside x).node (Tok x.node.close (is kinds.RightParen) ∷ rest)
-
-passes_true : (o : Option (Element Expr)) → passes (λ x. argument_stands x && true) o ≡ passes argument_stands o
-passes_true None = refl
-passes_true (Some x) = and_true (argument_stands x)
-  where
-    and_true : (b : Bool) → (b && true) ≡ b
-    and_true true = refl
-    and_true false = refl
-
-pub inside_arguments : (room : ℕ) (x : Tall (Bracket Expr)) → ArgumentsAt room x → InsideAt argument_kind room (tall_inside x)
-inside_arguments room x at =
-    let each = and_parts _ _ at.each in
-    record { each = each.0; end = passes_true x.node.last ∙ each.1; height = at.height ∙ arguments_tall x.node; fits = at.fits }
-
-pub arguments_in_brackets : (room : ℕ) (b : Bracket Expr) (height : ℕ) → InsideAt argument_kind room (tall_inside (record { node = b; height = height })) → ArgumentsAt room (record { node = b; height = height })
-arguments_in_brackets room b height at = record { each = and_from _ _ at.each (sym (passes_true b.last) ∙ at.end); height = at.height ∙ sym (arguments_tall b); fits = at.fits }
+pub arguments_in_brackets : (room : ℕ) (b : Bracket Expr) (height : ℕ) → EnclosedAt argument_kind room (enclosed_of (record { node = b; height = height })) → ArgumentsAt room (record { node = b; height = height })
+arguments_in_brackets = as_bracket expr_line argument_stands (λ (x : Expr). (expr x).height)
 
 -- ARGUMENTS THAT MAY STAND
 

@@ -7,19 +7,22 @@ use Rattle.js_tree.specs.declared.token.Token.{Token}
 use Rattle.js_tree.specs.declared.token_kind.TokenKind.{TokenKind}
 use Rattle.js_tree.specs.declared.token_kind.TokenKind.TheVariants as kind
 use Rattle.js_tree.specs.declared.tree.Expr.{Expr}
+use Rattle.js_tree.specs.declared.tree.Slot.{Slot}
 use Rattle.js_tree.specs.Lexing.{Place}
 use Rattle.js_tree.specs.Pieces.{Piece, Tok, Onto}
-use Rattle.js_tree.specs.Spelling.{expr, tallest_of}
+use Rattle.js_tree.specs.Spelling.{expr, slot, tallest_of}
 use Rattle.js_tree.specs.Spelling.Nodes.{ASSIGN, passes, pieces}
-use Rattle.js_tree.specs.Spelling.Rows.{each_of, element_row, listed_row, maybe}
+use Rattle.js_tree.specs.Spelling.Rows.{each_of, element_row, listed_row, mark, maybe}
 use Rattle.js_tree.specs.TokenKinds.{is}
 use Rattle.js_tokens.specs.Ahead.{reads}
 use Rattle.js_tokens.specs.declared.fault.TokenFault.{TokenFault}
 use Rattle.js_tokens.specs.declared.goal.Goal.TheVariants as goal
+use Rattle.js_tokens.specs.Pieces.{Anywhere}
+use Rattle.js_parser.specs.declared.brackets.Enclosed.{Enclosed}
 use Rattle.js_parser.specs.declared.brackets.Inside.{Inside}
 use Rattle.js_parser.specs.declared.tall.Tall.{Tall}
 use Rattle.js_parser.specs.Following.{NoKind, Stops, strength}
-use Rattle.js_parser.specs.Nodes.{ReadsMaybe, argument_stands, expr_line}
+use Rattle.js_parser.specs.Nodes.{ReadsAs, ReadsMaybe, argument_stands, expr_line, parameter_stands, slot_line}
 
 -- an item with a comma behind it goes to the end of the front, one without is the last
 abbrev pub Puts : {X : Type 0} → X → Option Token → List (Listed X) → Option X → List (Listed X) → Option X → Type 0
@@ -45,6 +48,11 @@ pub record Closes (close : TokenKind) : Type 0 where
   pub weak : (nl : Bool) → strength close nl ≡ 0
   pub comma : is kind.Comma close ≡ false
   pub some : is close kind.End ≡ false
+
+-- of a bracket that opens
+pub record Opens (begin : TokenKind) : Type 0 where
+  pub plain : reads goal.Operator begin ≡ true
+  pub some : is begin kind.End ≡ false
 
 -- ITEMS
 
@@ -88,6 +96,25 @@ module _ {X : Type 0} (k : ItemKind X) where
   abbrev pub ReadsInside : TokenKind → ℕ → Place → Place → Result (Tall (Inside X)) TokenFault → Type 0
   ReadsInside close room = ReadsMaybe (λ x. inside_line x.node) (InsideAt room) (λ x. Before close)
 
--- arguments
+  -- IN THEIR BRACKETS
+
+  abbrev pub enclosed_line : (begin close : TokenKind) → Enclosed X → Onto
+  enclosed_line begin close x rest = mark pieces begin x.left (inside_line x.inside (mark pieces close x.right rest))
+
+  abbrev pub EnclosedAt : ℕ → Tall (Enclosed X) → Type 0
+  EnclosedAt room x = InsideAt room (record { node = x.node.inside; height = x.height })
+
+  abbrev pub ReadsEnclosed : (begin close : TokenKind) → ℕ → Place → Place → Result (Tall (Enclosed X)) TokenFault → Type 0
+  ReadsEnclosed begin close room = ReadsAs (λ x. enclosed_line begin close x.node) (EnclosedAt room) (Anywhere (Tall (Enclosed X)))
+
+-- ARGUMENTS AND PARAMETERS
+
+-- elements, each of which may stand last
+abbrev pub element_kind : {Y : Type 0} → (Y → Onto) → (Element Y → Bool) → (Y → ℕ) → ItemKind (Element Y)
+element_kind line stands tall = record { line = element_row pieces line; stands = stands; ends = λ x. true; tall = λ x. tall x.value }
+
 abbrev pub argument_kind : ItemKind (Element Expr)
-argument_kind = record { line = element_row pieces expr_line; stands = argument_stands; ends = λ x. true; tall = λ x. (expr x.value).height }
+argument_kind = element_kind expr_line argument_stands (λ (x : Expr). (expr x).height)
+
+abbrev pub parameter_kind : ItemKind (Element Slot)
+parameter_kind = element_kind slot_line parameter_stands (λ (x : Slot). (slot x).height)

@@ -175,10 +175,14 @@ list_layer rank first others = if rank == 0 then Expr-F.Comma first others else 
 abbrev pub argument_stands : Element Expr → Bool
 argument_stands x = stands ASSIGN (expr x.value)
 
-pub record ArgumentsAt (room : ℕ) (x : Tall (Bracket Expr)) : Type 0 where
-  pub each : all_within argument_stands x.node ≡ true
-  pub height : x.height ≡ bracket_row unmarked higher x.node 0
+-- each item in brackets is as is asked, and none is taller than the room
+pub record BracketAt {Y : Type 0} (stands : Element Y → Bool) (tall : Y → ℕ) (room : ℕ) (x : Tall (Bracket Y)) : Type 0 where
+  pub each : all_within stands x.node ≡ true
+  pub height : x.height ≡ bracket_row unmarked (λ (y : Y) h. max (tall y) h) x.node 0
   pub fits : x.height ≤ room
+
+abbrev pub ArgumentsAt : ℕ → Tall (Bracket Expr) → Type 0
+ArgumentsAt = BracketAt argument_stands (λ (x : Expr). (expr x).height)
 
 abbrev pub ReadsArguments : ℕ → Place → Place → Result (Tall (Bracket Expr)) TokenFault → Type 0
 ReadsArguments room = ReadsAs (λ x. arguments_line x.node) (ArgumentsAt room) (Anywhere (Tall (Bracket Expr)))
@@ -258,10 +262,11 @@ ReadsTails calls room = ReadsMaybe (λ x. tails_line x.node) (TailsAt calls room
 
 -- FUNCTIONS
 
-pub record ParametersAt (room : ℕ) (x : Tall (Bracket Slot)) : Type 0 where
-  pub each : all_within (λ (e : Element Slot). parameter_fits (record { dots = e.dots; value = slot e.value })) x.node ≡ true
-  pub height : x.height ≡ bracket_row unmarked (λ (s : Slot) h. max (slot s).height h) x.node 0
-  pub fits : x.height ≤ room
+abbrev pub parameter_stands : Element Slot → Bool
+parameter_stands x = parameter_fits (record { dots = x.dots; value = slot x.value })
+
+abbrev pub ParametersAt : ℕ → Tall (Bracket Slot) → Type 0
+ParametersAt = BracketAt parameter_stands (λ (x : Slot). (slot x).height)
 
 pub record BlockAt (room : ℕ) (x : Tall (Block Stmt)) : Type 0 where
   pub height : x.height ≡ stmts_height x.node.body
@@ -273,14 +278,6 @@ pub record FunctionAt (room : ℕ) (x : Tall Function) : Type 0 where
 
 abbrev pub ReadsParameters : ℕ → Place → Place → Result (Tall (Bracket Slot)) TokenFault → Type 0
 ReadsParameters room = ReadsAs (λ x. parameters_line x.node) (ParametersAt room) (Anywhere (Tall (Bracket Slot)))
-
-pub record ParameterAt (room : ℕ) (x : Tall (Element Slot)) : Type 0 where
-  pub fits : parameter_fits (record { dots = x.node.dots; value = slot x.node.value }) ≡ true
-  pub height : x.height ≡ (slot x.node.value).height
-  pub low : x.height ≤ room
-
-abbrev pub ReadsParameter : ℕ → Place → Place → Result (Tall (Element Slot)) TokenFault → Type 0
-ReadsParameter room = ReadsAs (λ x. element_row pieces slot_line x.node) (ParameterAt room) (Anywhere (Tall (Element Slot)))
 
 abbrev pub ReadsBlock : ℕ → Place → Place → Result (Tall (Block Stmt)) TokenFault → Type 0
 ReadsBlock room = ReadsAs (λ x. block_line x.node) (BlockAt room) (Anywhere (Tall (Block Stmt)))

@@ -1,10 +1,10 @@
 //! Items by commas in brackets.
 ghost use Rattle.std.specs.Prelude.{◌≡◌, ℕ, ◌&&◌, is_some, not, OnOk};
 ghost use Rattle.js_tree.specs.TokenKinds.{is};
-ghost use Rattle.js_parser.specs.Brackets.{BeginsElse, Closes, ItemKind, Puts, ReadsInside, ReadsItem};
+ghost use Rattle.js_parser.specs.Brackets.{BeginsElse, Closes, ItemKind, Opens, Puts, ReadsEnclosed, ReadsInside, ReadsItem};
 
 use crate::kinds::are_same;
-use crate::marks::maybe_mark;
+use crate::marks::{mark, maybe_mark};
 use crate::tall::{Tall, higher};
 use js_tokens::{TokenFault, TokenReader};
 use js_tree::{Listed, Token, TokenKind};
@@ -18,6 +18,17 @@ pub struct Inside<I> {
     pub front: Items<Listed<I>>,
     /// The item without one, where the last has none.
     pub last: Option<I>,
+}
+
+/// Items by commas and their brackets.
+#[derive(Drop)]
+pub struct Enclosed<I> {
+    /// The bracket that opens.
+    pub left: Token,
+    /// The items.
+    pub inside: Inside<I>,
+    /// The bracket that closes.
+    pub right: Token,
 }
 
 /// What reads the items of a list.
@@ -41,8 +52,38 @@ pub trait ReadItem {
         ensures { result ≡ kind.ends item.now };
 }
 
-/// Items by commas, up to the bracket that closes.
-pub fn items<R: ReadItem>(
+/// Items by commas in brackets.
+pub fn items_in_brackets<R: ReadItem>(
+    alloc: Global,
+    reader: &mut TokenReader<'_>,
+    by: &R,
+    begin: TokenKind,
+    close: TokenKind,
+) -> Result<Tall<Enclosed<R::Item>>, TokenFault>
+    requires may { R.may_read by.now }
+    requires opens { Opens begin }
+    requires closes { Closes close }
+    requires other { BeginsElse R.kind close }
+    ensures reads { ReadsEnclosed R.kind begin close (R.room by.now) reader.old reader.new result }
+{
+    let left = mark(alloc, reader, begin)?;
+    let Tall {
+        node: inside,
+        height,
+    } = items(alloc, reader, by, close)?;
+    let right = mark(alloc, reader, close)?;
+    Ok(Tall {
+        node: Enclosed {
+            left,
+            inside,
+            right,
+        },
+        height,
+    })
+}
+
+// Items by commas, up to the bracket that closes.
+fn items<R: ReadItem>(
     alloc: Global,
     reader: &mut TokenReader<'_>,
     by: &R,
@@ -75,8 +116,8 @@ pub fn items<R: ReadItem>(
     })
 }
 
-/// Whether a further item stands before the token, where this is the item without a comma so far.
-pub fn goes_on<T>(last: &Option<T>, close: TokenKind, kind: TokenKind) -> bool
+// Whether a further item stands before the token, where this is the item without a comma so far.
+fn goes_on<T>(last: &Option<T>, close: TokenKind, kind: TokenKind) -> bool
     ensures { result ≡ (not (is_some last.now) && not (is close kind)) }
 {
     match last {
@@ -95,8 +136,8 @@ fn lacks_comma(comma: &Option<Token>, may_end: bool) -> bool
     }
 }
 
-/// Puts the item to the front with its comma, or takes it for the last.
-pub fn put<T: Drop>(
+// Puts the item to the front with its comma, or takes it for the last.
+fn put<T: Drop>(
     front: &mut Items<Listed<T>>,
     last: &mut Option<T>,
     item: T,

@@ -16,7 +16,7 @@ ghost use Rattle.js_parser.specs.Brackets.{argument_kind, ReadsItem};
 ghost use Rattle.js_parser.specs.Following.{is_part};
 ghost use Rattle.js_parser.specs.Nodes.{Knot, names_eval, CallsHere, ReadsSubstitutions, ReadsArguments, ReadsTemplate, ReadsTail, ReadsTails};
 
-use crate::brackets::{ReadItem, items};
+use crate::brackets::{ReadItem, items_in_brackets};
 use crate::grammar::Grammar;
 use crate::kinds::{are_same, begins_tail};
 use crate::marks::{mark, maybe_mark};
@@ -45,7 +45,7 @@ fn is_eval_name(head: &Expr) -> bool
 
 // What reads arguments.
 #[derive(Drop)]
-struct Arguments<'g, E, S> {
+struct ArgumentReader<'g, E, S> {
     rules: &'g Grammar<E, S>,
 }
 
@@ -53,7 +53,7 @@ impl<
     'g,
     E: Fn(Global, &mut TokenReader<'_>, u32, u8) -> Result<Value, TokenFault>,
     S: Fn(Global, &mut TokenReader<'_>, u32) -> Result<Tall<Items<Stmt>>, TokenFault>,
-> ReadItem for Arguments<'g, E, S>
+> ReadItem for ArgumentReader<'g, E, S>
 {
     type Item = Element<Boxed<Expr>>;
 
@@ -170,19 +170,20 @@ impl<
         requires some { 0 < self.now.room }
         ensures reads { ReadsArguments (self.now.room - 1) reader.old reader.new result }
     {
-        let open = mark(self.alloc, reader, TokenKind::LeftParen)?;
-        let by = Arguments { rules: self };
-        let Tall {
-            node: inside,
-            height,
-        } = items(self.alloc, reader, &by, TokenKind::RightParen)?;
-        let close = mark(self.alloc, reader, TokenKind::RightParen)?;
+        let by = ArgumentReader { rules: self };
+        let Tall { node: all, height } = items_in_brackets(
+            self.alloc,
+            reader,
+            &by,
+            TokenKind::LeftParen,
+            TokenKind::RightParen,
+        )?;
         Ok(Tall {
             node: Bracket {
-                open,
-                front: inside.front,
-                last: inside.last,
-                close,
+                open: all.left,
+                front: all.inside.front,
+                last: all.inside.last,
+                close: all.right,
             },
             height,
         })
