@@ -1,6 +1,5 @@
 -- Arguments: what is asked of each, and with what one begins.
-use Rattle.std.proofs.Common.{◌≡◌, ℕ, Bool, true, false, ◌&&◌, List, ◌∷◌, Option, Some, None, is_some, refl, sym, ap, ◌∙◌, arith, true≢false}
-use Rattle.std.proofs.lemmas.Bool.{and_from, and_parts}
+use Rattle.std.proofs.Common.{◌≡◌, ℕ, Bool, true, false, List, ◌∷◌, Option, Some, None, is_some, refl, sym, ap, ◌∙◌, true≢false}
 use Rattle.js_tree.specs.declared.lists.Bracket.{Bracket}
 use Rattle.js_tree.specs.declared.lists.Element.{Element}
 use Rattle.js_tree.specs.declared.token.Token.{Token}
@@ -8,7 +7,7 @@ use Rattle.js_tree.specs.declared.token_kind.TokenKind.{TokenKind}
 use Rattle.js_tree.specs.declared.token_kind.TokenKind.TheVariants as kinds
 use Rattle.js_tree.specs.declared.tree.Expr.{Expr}
 use Rattle.js_tree.specs.Lexing.{Place}
-use Rattle.js_tree.specs.Pieces.{Piece, Tok, Onto, kind as kind_of}
+use Rattle.js_tree.specs.Pieces.{Piece, Tok, kind as kind_of}
 use Rattle.js_tree.specs.Spelling.{expr}
 use Rattle.js_tree.specs.Spelling.Nodes.{all_within, passes, pieces, unmarked}
 use Rattle.js_tree.specs.Spelling.Rows.{bracket_row, each_of, element_row, listed_row, may_mark, maybe}

@@ -1,8 +1,7 @@
 -- What is seen of items by commas in brackets, how tall they are, and elements as such items.
-use Rattle.std.proofs.Common.{◌≡◌, ℕ, ◌≤◌, max, Bool, true, false, ◌&&◌, not, List, [], ◌∷◌, ◌++◌, Option, Some, None, is_some, refl, sym, ap, ◌∙◌, subst, arith, append-nil, append_assoc, true≢false}
+use Rattle.std.proofs.Common.{◌≡◌, ℕ, max, Bool, true, false, ◌&&◌, not, List, [], ◌∷◌, ◌++◌, Option, Some, None, is_some, refl, sym, ap, ◌∙◌, arith, true≢false}
 use Rattle.std.proofs.lemmas.Bool.{and_from, and_parts}
 use Rattle.std.proofs.lemmas.List.Folds.{list_all-map}
-use Rattle.std.specs.List.{list_all}
 use Rattle.js_tree.specs.declared.lists.Bracket.{Bracket}
 use Rattle.js_tree.specs.declared.lists.Element.{Element}
 use Rattle.js_tree.specs.declared.lists.Listed.{Listed}
@@ -10,8 +9,8 @@ use Rattle.js_tree.specs.declared.token.Token.{Token}
 use Rattle.js_tree.specs.declared.token_kind.TokenKind.TheVariants as kinds
 use Rattle.js_tree.specs.Pieces.{Onto}
 use Rattle.js_tree.specs.Spelling.{tallest_of}
-use Rattle.js_tree.specs.Spelling.Nodes.{all_within, passes, pieces, unmarked}
-use Rattle.js_tree.specs.Spelling.Rows.{bracket_row, each_of, element_row, listed_row, may_mark, maybe}
+use Rattle.js_tree.specs.Spelling.Nodes.{all_within, passes, unmarked}
+use Rattle.js_tree.specs.Spelling.Rows.{bracket_row, each_of, element_row, listed_row, maybe}
 use Rattle.js_tree.proofs.Folds.{map_bracket, map_element, map_listed, map_maybe}
 use Rattle.js_parser.proofs.ListLemmas.{tallest-push}
 use Rattle.js_parser.specs.Brackets.{Closes, EnclosedAt, Opens, Puts, element_kind, inside_height, last_height}

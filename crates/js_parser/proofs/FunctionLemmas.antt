@@ -1,12 +1,10 @@
 -- A function and its parameters as their parts, and a function made of parts.
-use Rattle.std.proofs.Common.{◌≡◌, ℕ, ◌≤◌, max, map, Bool, true, false, ◌&&◌, not, List, [], ◌∷◌, Option, Some, None, is_some, refl, sym, ap, ◌∙◌, subst, arith, true≢false}
+use Rattle.std.proofs.Common.{◌≡◌, ℕ, max, map, Bool, true, false, ◌&&◌, not, List, [], ◌∷◌, Option, Some, None, is_some, refl, sym, ap, ◌∙◌, subst, arith, true≢false}
 use Rattle.js_tree.specs.declared.lists.Block.{Block}
 use Rattle.js_tree.specs.declared.lists.Bracket.{Bracket}
 use Rattle.js_tree.specs.declared.lists.Element.{Element}
 use Rattle.js_tree.specs.declared.lists.Init.{Init}
-use Rattle.js_tree.specs.declared.lists.Listed.{Listed}
 use Rattle.js_tree.specs.declared.token.Token.{Token}
-use Rattle.js_tree.specs.declared.token_kind.TokenKind.{TokenKind}
 use Rattle.js_tree.specs.declared.token_kind.TokenKind.TheVariants as kinds
 use Rattle.js_tree.specs.declared.tree.Expr.{Expr}
 use Rattle.js_tree.specs.declared.tree.Expr.TheOpen.{Function-F}
@@ -24,10 +22,8 @@ use Rattle.js_tree.specs.Spelling.Nodes.{Seen, all_within, musts, pieces, unmark
 use Rattle.js_tree.specs.Spelling.Rows.{bracket_row, each_of, element_row, may_mark}
 use Rattle.js_tree.specs.TokenKinds.{is}
 use Rattle.js_tree.proofs.Folds.{layer-Keyword, map_block, map_bracket}
-use Rattle.js_tree.proofs.KindLemmas.{is_same}
 use Rattle.js_tree.proofs.RowLemmas.{bracket_map, each_map}
 use Rattle.js_tree.proofs.SpellingLemmas.{at-Keyword, function_layer, function_line, seen_lines}
-use Rattle.js_tokens.specs.Ahead.{IsNextKind}
 use Rattle.js_tokens.specs.Pieces.{Reads}
 use Rattle.js_parser.proofs.BeginLemmas.{no_kind_before}
 use Rattle.js_parser.proofs.BracketLemmas.{as_bracket, bracket_tall, enclosed_of, in_brackets, within_seen}

@@ -31,7 +31,7 @@ use Rattle.js_tree.specs.Operators.{on_line}
 use Rattle.js_tree.specs.Spelling.Chains.{is_call}
 use Rattle.js_tree.specs.Spelling.Patterns.{DECLARED}
 use Rattle.js_tree.specs.Spelling.Nodes.{ASSIGN, BINARY, POWER, UNARY, NEW, pieces, unmarked, stands, is_empty, all_within, passes}
-use Rattle.js_tree.specs.Spelling.Rows.{mark, each_of, maybe, init_row, bracket_row, element_row, further_row, template_parts, template_row, tail_row}
+use Rattle.js_tree.specs.Spelling.Rows.{mark, each_of, maybe, init_row, bracket_row, further_row, template_parts, template_row, tail_row}
 use Rattle.js_tree.specs.TokenKinds.{is}
 use Rattle.js_tokens.specs.Pieces.{Read, OnlyRead, Gives, Moves, Refuses, Anywhere}
 use Rattle.js_tokens.specs.declared.fault.TokenFault.{TokenFault}

@@ -53,8 +53,7 @@ impl<
     'g,
     E: Fn(Global, &mut TokenReader<'_>, u32, u8) -> Result<Value, TokenFault>,
     S: Fn(Global, &mut TokenReader<'_>, u32) -> Result<Tall<Items<Stmt>>, TokenFault>,
-> ReadItem for ArgumentReader<'g, E, S>
-{
+> ReadItem for ArgumentReader<'g, E, S> {
     type Item = Element<Boxed<Expr>>;
 
     ghost kind = { argument_kind };
@@ -63,10 +62,7 @@ impl<
 
     ghost may_read = { λ by. Knot E.Fn S.Fn by.rules.now × (0 < by.rules.now.room) };
 
-    fn item(
-        &self,
-        reader: &mut TokenReader<'_>,
-    ) -> Result<Tall<Element<Boxed<Expr>>>, TokenFault> {
+    fn item(&self, reader: &mut TokenReader<'_>) -> Result<Tall<Element<Boxed<Expr>>>, TokenFault> {
         self.rules.argument(reader)
     }
 

@@ -1,5 +1,5 @@
-use Rattle.std.proofs.Common.{◌≡◌, ◌∷◌, refl, arith}
-use Rattle.js_tree.specs.Pieces.{Piece, Tok}
+use Rattle.std.proofs.Common.{◌∷◌, refl, arith}
+use Rattle.js_tree.specs.Pieces.{Tok}
 use Rattle.js_tree.specs.TokenKinds.{is}
 use Rattle.js_parser.proofs.BeginLemmas.{with_mark}
 use Rattle.js_parser.proofs.PlaceLemmas.{passes_none, passes_on}

@@ -1,4 +1,3 @@
-use Rattle.std.proofs.Common.{◌-◌}
 use Rattle.js_tree.specs.declared.lists.Bracket.{Bracket}
 use Rattle.js_tree.specs.declared.tree.Expr.{Expr}
 use Rattle.js_parser.proofs.BracketLemmas.{closes_paren, enclosed_of, opens_paren}
