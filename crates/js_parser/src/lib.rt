@@ -1,8 +1,8 @@
 //! The tree that spells a text (ECMA-262, clauses 11 to 15).
 //!
 //! Read `whole` first, then `knot` and `grammar`, then the rules from outside in: `statements`, `functions`,
-//! `expressions`, `assignments`, `operands`, `chains`, `tails`, `primaries`. `kinds` has the tests of tokens that choose
-//! between rules. Of the specs `Answers` is what `parse` promises; the others serve its proof.
+//! `expressions`, `assignments`, `operands`, `chains`, `tails`, `primaries`. `brackets` has the loop over items, `kinds` the
+//! tests of tokens that choose between rules. Of the specs `Answers` is what `parse` promises; the others serve its proof.
 #![tactic(auto)]
 
 mod assignments;
