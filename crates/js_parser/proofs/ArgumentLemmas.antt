@@ -41,7 +41,7 @@ no_kind_expr k other x rest m r t n next read = by_test (is k (kind_of t)) refl
 
 -- no argument begins with `)`
 pub arguments_else : BeginsElse argument_kind kinds.RightParen
-arguments_else x rest good after = by_dots x.dots
+arguments_else room x rest holds after = by_dots x.dots
   where
     by_dots : (o : Option Token) → NoKind (is kinds.RightParen) (may_mark pieces kinds.Dots o (expr_line x.value rest))
     by_dots None = no_kind_expr kinds.RightParen refl x.value rest

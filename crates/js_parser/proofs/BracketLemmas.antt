@@ -13,7 +13,7 @@ use Rattle.js_tree.specs.Spelling.Nodes.{all_within, passes, unmarked}
 use Rattle.js_tree.specs.Spelling.Rows.{bracket_row, each_of, element_row, listed_row, maybe}
 use Rattle.js_tree.proofs.Folds.{map_bracket, map_element, map_listed, map_maybe}
 use Rattle.js_parser.proofs.ListLemmas.{tallest-push}
-use Rattle.js_parser.specs.Brackets.{Closes, EnclosedAt, Opens, Puts, element_kind, inside_height, last_height}
+use Rattle.js_parser.specs.Brackets.{Closes, EnclosedAt, Every, IfThere, Opens, Puts, element_kind, inside_height, last_height}
 use Rattle.js_parser.specs.Nodes.{BracketAt}
 use Rattle.js_parser.specs.declared.brackets.Enclosed.{Enclosed}
 use Rattle.js_parser.specs.declared.tall.Tall.{Tall}
@@ -90,16 +90,39 @@ module _ {Y : Type 0} (line : Y → Onto) (stands : Element Y → Bool) (f : Y �
   tall : (b : Bracket Y) → bracket_row unmarked (taller f) b 0 ≡ inside_height (λ (x : Element Y). f x.value) b.front b.last
   tall b = let e = bracket_tall f b 0 in omega (arith, e)
 
-  passes_true : (o : Option (Element Y)) → passes (λ x. stands x && true) o ≡ passes stands o
-  passes_true None = refl
-  passes_true (Some x) = and_true (stands x)
-    where
-      and_true : (b : Bool) → (b && true) ≡ b
-      and_true true = refl
-      and_true false = refl
+  abbrev Fits : Element Y → Type 0
+  Fits x = (stands x ≡ true) × (f x.value ≤ room)
+
+  abbrev FitsLast : Element Y → Type 0
+  FitsLast x = Fits x × (true ≡ true)
 
   pub in_brackets : (x : Tall (Bracket Y)) → BracketAt stands f room x → EnclosedAt (element_kind line stands f) room (enclosed_of x)
-  in_brackets x at = let each = and_parts _ _ at.each in record { each = each.0; end = passes_true x.node.last ∙ each.1; height = at.height ∙ tall x.node; fits = at.fits }
+  in_brackets x at =
+      let s = and_parts _ _ at.each in
+      let e = tall x.node in
+      record {
+        all = record { each = each x.node.front s.0 (omega (arith, e, at.height, at.fits)); end = end x.node.last s.1 (omega (arith, e, at.height, at.fits)) };
+        height = at.height ∙ e;
+      }
+    where
+      each : (xs : List (Listed (Element Y))) → list_all (λ y. stands y.item) xs ≡ true → tallest_of (λ y. f y.item.value) xs ≤ room → Every Fits xs
+      each [] e h = tt
+      each (y ∷ ys) e h = let s = and_parts _ _ e in ((s.0, omega (arith, h)), each ys s.1 (omega (arith, h)))
+
+      end : (o : Option (Element Y)) → passes stands o ≡ true → last_height (λ (y : Element Y). f y.value) o ≤ room → IfThere FitsLast o
+      end None e h = tt
+      end (Some y) e h = ((e, h), refl)
 
   pub as_bracket : (b : Bracket Y) (height : ℕ) → EnclosedAt (element_kind line stands f) room (enclosed_of (record { node = b; height = height })) → BracketAt stands f room (record { node = b; height = height })
-  as_bracket b height at = record { each = and_from _ _ at.each (sym (passes_true b.last) ∙ at.end); height = at.height ∙ sym (tall b); fits = at.fits }
+  as_bracket b height at =
+      let e = each b.front at.all.each in
+      let l = end b.last at.all.end in
+      record { each = and_from _ _ e.0 l.0; height = at.height ∙ sym (tall b); fits = omega (arith, at.height, e.1, l.1) }
+    where
+      each : (xs : List (Listed (Element Y))) → Every Fits xs → (list_all (λ y. stands y.item) xs ≡ true) × (tallest_of (λ y. f y.item.value) xs ≤ room)
+      each [] a = (refl, omega arith)
+      each (y ∷ ys) a = let m = each ys a.1 in (and_from _ _ a.0.0 m.0, omega (arith, a.0.1, m.1))
+
+      end : (o : Option (Element Y)) → IfThere FitsLast o → (passes stands o ≡ true) × (last_height (λ (y : Element Y). f y.value) o ≤ room)
+      end None a = (refl, omega arith)
+      end (Some y) a = (a.0.0, a.0.1)

@@ -75,7 +75,7 @@ parameter_view p x rest good r = by_dots x.dots x.value refl good r
 
 -- no parameter begins with `)`
 pub parameters_else : BeginsElse parameter_kind kinds.RightParen
-parameters_else x rest good after m r t n next read = let v = parameter_view m x rest good r in no_kind_before (is kinds.RightParen) kinds.Name refl refl v.name rest m v.read t n next read
+parameters_else room x rest holds after m r t n next read = let v = parameter_view m x rest holds.0 r in no_kind_before (is kinds.RightParen) kinds.Name refl refl v.name rest m v.read t n next read
 
 pub inside_parameters : (room : ℕ) (x : Tall (Bracket Slot)) → ParametersAt room x → EnclosedAt parameter_kind room (enclosed_of x)
 inside_parameters = in_brackets slot_line parameter_stands (λ (x : Slot). (slot x).height)

@@ -19,10 +19,10 @@ use Rattle.js_tokens.specs.declared.fault.TokenFault.{TokenFault}
 use Rattle.js_tokens.specs.declared.fault.TokenFault.TheVariants as fault
 use Rattle.js_tokens.specs.declared.goal.Goal.TheVariants as goal
 use Rattle.js_parser.proofs.BeginLemmas.{next_of, no_kind_before, other_told, stops_before}
-use Rattle.js_parser.proofs.ListLemmas.{AllOf, each-push, good-push}
+use Rattle.js_parser.proofs.ListLemmas.{each-push}
 use Rattle.js_parser.proofs.PlaceLemmas.{passes_none, passes_on}
 use Rattle.js_parser.proofs.ReadLemmas.{IsWant, want}
-use Rattle.js_parser.specs.Brackets.{AfterItem, Before, BeginsElse, Closes, InsideAt, ItemAt, ItemKind, Puts, ReadsItem, inside_height, inside_line, last_height}
+use Rattle.js_parser.specs.Brackets.{AfterItem, AllHold, Before, BeginsElse, Closes, Every, HoldsLast, InsideAt, ItemAt, ItemKind, Puts, ReadsItem, inside_line}
 use Rattle.js_parser.specs.Nodes.{NoMark, ReadsMaybe}
 use Rattle.js_parser.specs.declared.brackets.Inside.{Inside}
 use Rattle.js_parser.specs.declared.tall.Tall.{Tall}
@@ -42,22 +42,11 @@ same_token t u e = ap (token_or t) e
 abbrev ReadsComma : Place → Place → Option Token → Type 0
 ReadsComma n q comma = ReadsMaybe (may_mark pieces kinds.Comma) (Any (Option Token)) (NoMark kinds.Comma) n q (Ok comma)
 
+every_push : {X : Type 0} (P : X → Type 0) (xs : List (Listed X)) (y : Listed X) → Every P xs → P y.item → Every P (xs ++ y ∷ [])
+every_push P [] y each holds = (holds, tt)
+every_push P (x ∷ xs) y each holds = (each.0, every_push P xs y each.1 holds)
+
 module _ {X : Type 0} (k : ItemKind X) (close : TokenKind) (room : ℕ) where
-  -- an item may stand and is no taller than the room; it may be the last
-  abbrev pub Fits : X → Type 0
-  Fits x = (k.stands x ≡ true) × (k.tall x ≤ room)
-
-  abbrev pub FitsLast : X → Type 0
-  FitsLast x = Fits x × (k.ends x ≡ true)
-
-  abbrev pub LastFits : Option X → Type 0
-  LastFits None = Unit {0}
-  LastFits (Some x) = FitsLast x
-
-  pub record AllFit (front : List (Listed X)) (last : Option X) : Type 0 where
-    pub each : AllOf (λ (x : Listed X). Fits x.item) front
-    pub end : LastFits last
-
   abbrev pub inside : List (Listed X) → Option X → Onto
   inside front last rest = each_of (listed_row pieces k.line) front (maybe k.line last rest)
 
@@ -67,18 +56,17 @@ module _ {X : Type 0} (k : ItemKind X) (close : TokenKind) (room : ℕ) where
 
   -- what is left of items whose front and last were read
   abbrev pub Remains : List (Listed X) → Option X → Place → List (Listed X) → Option X → List Piece → Type 0
-  Remains front None m xs l behind = (ys : List (Listed X)) × (xs ≡ front ++ ys) × Reads m (inside ys l behind) × AllFit ys l
+  Remains front None m xs l behind = (ys : List (Listed X)) × (xs ≡ front ++ ys) × Reads m (inside ys l behind) × AllHold k room ys l
   Remains front (Some x) m xs l behind = (xs ≡ front) × (l ≡ Some x) × Reads m behind
 
   -- these items were read from p to m, and whatever could be read at p begins with them
   pub record AreRead (p : Place) (front : List (Listed X)) (last : Option X) (m : Place) : Type 0 where
     pub found : Read p (inside front last) m
-    pub fit : AllFit front last
-    pub only : (xs : List (Listed X)) (l : Option X) (t : Token) (more : List Piece) → Reads p (inside xs l (closing t more)) → AllFit xs l → Remains front last m xs l (closing t more)
+    pub fit : AllHold k room front last
+    pub only : (xs : List (Listed X)) (l : Option X) (t : Token) (more : List Piece) → Reads p (inside xs l (closing t more)) → AllHold k room xs l → Remains front last m xs l (closing t more)
     pub passes : Passes p m
 
   pub none_read : (p : Place) → AreRead p [] None p
-  unfolding AllOf
   none_read p = record { found = λ rest r. r; fit = record { each = tt; end = tt }; only = λ xs l t more r g. (xs, refl, r, g); passes = passes_none p }
 
   -- WHAT FOLLOWS AN ITEM
@@ -93,46 +81,15 @@ module _ {X : Type 0} (k : ItemKind X) (close : TokenKind) (room : ℕ) where
   abbrev tall_item : X → Tall X
   tall_item x = record { node = x; height = k.tall x }
 
-  item_at : (x : X) → Fits x → ItemAt k room (tall_item x)
-  item_at x fits = record { good = fits.0; height = refl; fits = fits.1 }
+  item_at : (x : X) → k.holds room x → ItemAt k room (tall_item x)
+  item_at x holds = record { holds = holds; height = refl }
 
   module _ (closes : Closes close) where
-    before_close : (x : X) (t : Token) (rest : List Piece) → FitsLast x → AfterItem k x (closing t rest)
-    before_close x t rest fits = (stops_before ASSIGN 0 close closes.plain closes.weak (omega arith) t rest, λ e. absurd (true≢false (sym fits.1 ∙ e)))
+    before_close : (x : X) (t : Token) (rest : List Piece) → HoldsLast k room x → AfterItem k x (closing t rest)
+    before_close x t rest holds = (stops_before ASSIGN 0 close closes.plain closes.weak (omega arith) t rest, λ e. absurd (true≢false (sym holds.1 ∙ e)))
 
     no_comma : (t : Token) (more : List Piece) → NoMark kinds.Comma None (closing t more)
     no_comma t more e = no_kind_before (is kinds.Comma) close closes.plain closes.comma t more
-
-    -- ALL ITEMS, AS THEY ARE ASKED FOR
-
-    all_fit : (x : Tall (Inside X)) → InsideAt k room x → AllFit x.node.front x.node.last
-    unfolding AllOf
-    all_fit x at =
-        let low : inside_height k.tall x.node.front x.node.last ≤ room = omega (arith, at.height, at.fits) in
-        record { each = each x.node.front at.each (omega (arith, low)); end = end x.node.last at.end (omega (arith, low)) }
-      where
-        each : (xs : List (Listed X)) → list_all (λ y. k.stands y.item) xs ≡ true → tallest_of (λ y. k.tall y.item) xs ≤ room → AllOf (λ (y : Listed X). Fits y.item) xs
-        each [] e h = tt
-        each (y ∷ ys) e h = let s = and_parts _ _ e in ((s.0, omega (arith, h)), each ys s.1 (omega (arith, h)))
-
-        end : (o : Option X) → passes (λ y. k.stands y && k.ends y) o ≡ true → last_height k.tall o ≤ room → LastFits o
-        end None e h = tt
-        end (Some y) e h = let s = and_parts (k.stands y) (k.ends y) e in ((s.0, h), s.1)
-
-    pub inside_at : (front : List (Listed X)) (last : Option X) (height : ℕ) → AllFit front last → height ≡ inside_height k.tall front last → InsideAt k room (record { node = record { front = front; last = last }; height = height })
-    unfolding AllOf
-    inside_at front last height fit is =
-        let e = each front fit.each in
-        let l = end last fit.end in
-        record { each = e.0; end = l.0; height = is; fits = omega (arith, is, e.1, l.1) }
-      where
-        each : (xs : List (Listed X)) → AllOf (λ (y : Listed X). Fits y.item) xs → (list_all (λ y. k.stands y.item) xs ≡ true) × (tallest_of (λ y. k.tall y.item) xs ≤ room)
-        each [] a = (refl, omega arith)
-        each (y ∷ ys) a = let m = each ys a.1 in (and_from _ _ a.0.0 m.0, omega (arith, a.0.1, m.1))
-
-        end : (o : Option X) → LastFits o → (passes (λ y. k.stands y && k.ends y) o ≡ true) × (last_height k.tall o ≤ room)
-        end None a = (refl, omega arith)
-        end (Some y) a = (and_from _ _ a.0.0 a.1, a.0.1)
 
     -- items could be read at p
     abbrev pub CanBeRead : Place → Tall (Inside X) → List Piece → Type 0
@@ -140,22 +97,21 @@ module _ {X : Type 0} (k : ItemKind X) (close : TokenKind) (room : ℕ) where
 
     -- they end before the bracket
     by_bracket : {Q : Type 0} (p : Place) (x : Tall (Inside X)) (rest : List Piece) → CanBeRead p x rest
-        → ((t : Token) (more : List Piece) → rest ≡ closing t more → Reads p (inside x.node.front x.node.last (closing t more)) → AllFit x.node.front x.node.last → Q) → Q
+        → ((t : Token) (more : List Piece) → rest ≡ closing t more → Reads p (inside x.node.front x.node.last (closing t more)) → AllHold k room x.node.front x.node.last → Q) → Q
     by_bracket p x [] can use_it = absurd can.2
     by_bracket p x (y ∷ ys) can use_it =
         let e : y ∷ ys ≡ closing can.2.0 ys = ap (λ (z : Piece). z ∷ ys) can.2.1 in
-        use_it can.2.0 ys e (subst (λ (ps : List Piece). Reads p (inside_line k x.node ps)) e can.0) (all_fit x can.1)
+        use_it can.2.0 ys e (subst (λ (ps : List Piece). Reads p (inside_line k x.node ps)) e can.0) can.1.all
 
     -- ONE MORE ITEM
 
     module _ (p m : Place) (front : List (Listed X)) (before : AreRead p front None m) (asked : TokenKind) (next : IsNextKind m asked) (other : is close asked ≡ false) where
       -- what can't be read refuses all items
-      refused_by : (e : TokenFault) → ((y : X) (t : Token) (more : List Piece) → Reads m (k.line y (closing t more)) → FitsLast y → IsWant e)
-          → ((y : Listed X) (rest : List Piece) → Reads m (listed_row pieces k.line y rest) → Fits y.item → IsWant e) → (x : Tall (Inside X)) (rest : List Piece) → CanBeRead p x rest → IsWant e
-      unfolding AllOf
-      refused_by e as_last listed x rest can = by_bracket p x rest can (λ t more same r fit. let a = before.only x.node.front x.node.last t more r fit in onward t more a.0 x.node.last a.2 a.3)
+      refused_by : (e : TokenFault) → ((y : X) (t : Token) (more : List Piece) → Reads m (k.line y (closing t more)) → HoldsLast k room y → IsWant e)
+          → ((y : Listed X) (rest : List Piece) → Reads m (listed_row pieces k.line y rest) → k.holds room y.item → IsWant e) → (x : Tall (Inside X)) (rest : List Piece) → CanBeRead p x rest → IsWant e
+          refused_by e as_last listed x rest can = by_bracket p x rest can (λ t more same r fit. let a = before.only x.node.front x.node.last t more r fit in onward t more a.0 x.node.last a.2 a.3)
         where
-          onward : (t : Token) (more : List Piece) (ys : List (Listed X)) (l : Option X) → Reads m (inside ys l (closing t more)) → AllFit ys l → IsWant e
+          onward : (t : Token) (more : List Piece) (ys : List (Listed X)) (l : Option X) → Reads m (inside ys l (closing t more)) → AllHold k room ys l → IsWant e
           onward t more [] None r fit = absurd (other_told close closes.plain m asked next other t more r)
           onward t more [] (Some y) r fit = as_last y t more r fit.end
           onward t more (y ∷ ys) l r fit = listed y (inside ys l (closing t more)) r fit.each.0
@@ -167,13 +123,13 @@ module _ {X : Type 0} (k : ItemKind X) (close : TokenKind) (room : ℕ) where
 
       module _ (item : Tall X) (n : Place) (reads : ReadsItem k room m n (Ok item)) where
         -- it is the item that was read
-        one : (y : X) (rest : List Piece) → Reads m (k.line y rest) → Fits y → AfterItem k y rest → (item.node ≡ y) × Reads n rest
+        one : (y : X) (rest : List Piece) → Reads m (k.line y rest) → k.holds room y → AfterItem k y rest → (item.node ≡ y) × Reads n rest
         one y rest r fit after = let g = reads.only (tall_item y) rest r (item_at y fit) after in (ap (λ (z : Tall X). z.node) g.0, g.1)
 
-        one_last : (y : X) (t : Token) (more : List Piece) → Reads m (k.line y (closing t more)) → FitsLast y → (item.node ≡ y) × Reads n (closing t more)
+        one_last : (y : X) (t : Token) (more : List Piece) → Reads m (k.line y (closing t more)) → HoldsLast k room y → (item.node ≡ y) × Reads n (closing t more)
         one_last y t more r fit = one y (closing t more) r fit.0 (before_close y t more fit)
 
-        one_listed : (y : Listed X) (rest : List Piece) → Reads m (listed_row pieces k.line y rest) → Fits y.item → (item.node ≡ y.item) × Reads n (Tok y.mark (is kinds.Comma) ∷ rest)
+        one_listed : (y : Listed X) (rest : List Piece) → Reads m (listed_row pieces k.line y rest) → k.holds room y.item → (item.node ≡ y.item) × Reads n (Tok y.mark (is kinds.Comma) ∷ rest)
         one_listed y rest r fit = one y.item (Tok y.mark (is kinds.Comma) ∷ rest) r fit (before_comma y.item y.mark rest)
 
         pub comma_refused : (q : Place) (e : TokenFault) → ReadsMaybe (may_mark pieces kinds.Comma) (Any (Option Token)) (NoMark kinds.Comma) n q (Err e) → (x : Tall (Inside X)) (rest : List Piece) → CanBeRead p x rest → IsWant e
@@ -190,8 +146,7 @@ module _ {X : Type 0} (k : ItemKind X) (close : TokenKind) (room : ℕ) where
         -- the item and the comma behind it, where there is one
         pub one_more : (comma : Option Token) (q : Place) → ReadsComma n q comma → (is_some comma ≡ false → k.ends item.node ≡ true) → (front' : List (Listed X)) (last' : Option X)
             → Puts item.node comma front None front' last' → AreRead p front' last' q
-        unfolding AllOf
-        one_more None q met may_end front' last' puts =
+              one_more None q met may_end front' last' puts =
             subst (λ (xs : List (Listed X)). AreRead p xs last' q) (sym puts.0) (subst (λ (l : Option X). AreRead p front l q) (sym puts.1) (record {
               found = λ rest r. before.found (k.line item.node rest) (reads.found.0 rest (met.found.0 rest r));
               fit = record { each = before.fit.each; end = (fits, may_end refl) };
@@ -199,10 +154,10 @@ module _ {X : Type 0} (k : ItemKind X) (close : TokenKind) (room : ℕ) where
               passes = passes_on p m q before.passes (passes_on m n q reads.moves met.moves);
             }))
           where
-            fits : Fits item.node
-            fits = let at = reads.found.1 in (at.good, omega (arith, at.height, at.fits))
+            fits : k.holds room item.node
+            fits = reads.found.1.holds
 
-            onward : (xs : List (Listed X)) (l : Option X) (t : Token) (more : List Piece) (ys : List (Listed X)) → xs ≡ front ++ ys → Reads m (inside ys l (closing t more)) → AllFit ys l
+            onward : (xs : List (Listed X)) (l : Option X) (t : Token) (more : List Piece) (ys : List (Listed X)) → xs ≡ front ++ ys → Reads m (inside ys l (closing t more)) → AllHold k room ys l
                 → (xs ≡ front) × (l ≡ Some item.node) × Reads q (closing t more)
             onward xs None t more [] e r fit = absurd (other_told close closes.plain m asked next other t more r)
             onward xs (Some y) t more [] e r fit =
@@ -214,9 +169,9 @@ module _ {X : Type 0} (k : ItemKind X) (close : TokenKind) (room : ℕ) where
                 absurd (none_some y.mark (met.only (Some y.mark) (inside ys l (closing t more)) b.1 tt (a_comma y.mark (inside ys l (closing t more)))).0)
         one_more (Some mark) q met may_end front' last' puts =
             subst (λ (xs : List (Listed X)). AreRead p xs last' q) (sym puts.0) (subst (λ (l : Option X). AreRead p (front ++ listed ∷ []) l q) (sym puts.1) (record {
-              found = λ rest r. subst (λ (ps : List Piece). Reads p ps) (sym (each-push (listed_row pieces k.line) (λ (y : Listed X). Fits y.item) (λ ps. Unit {0}) (λ y ps. Unit {0}) front listed rest))
+              found = λ rest r. subst (λ (ps : List Piece). Reads p ps) (sym (each-push (listed_row pieces k.line) (λ (y : Listed X). Unit {0}) (λ ps. Unit {0}) (λ y ps. Unit {0}) front listed rest))
                   (before.found (listed_row pieces k.line listed rest) (reads.found.0 (Tok mark (is kinds.Comma) ∷ rest) (met.found.0 rest r)));
-              fit = record { each = good-push (listed_row pieces k.line) (λ (y : Listed X). Fits y.item) (λ ps. Unit {0}) (λ y ps. Unit {0}) front listed before.fit.each fits; end = tt };
+              fit = record { each = every_push (k.holds room) front listed before.fit.each fits; end = tt };
               only = λ xs l t more r g. let a = before.only xs l t more r g in onward xs l t more a.0 a.1 a.2 a.3;
               passes = passes_on p m q before.passes (passes_on m n q reads.moves met.moves);
             }))
@@ -224,11 +179,11 @@ module _ {X : Type 0} (k : ItemKind X) (close : TokenKind) (room : ℕ) where
             listed : Listed X
             listed = record { item = item.node; mark = mark }
 
-            fits : Fits item.node
-            fits = let at = reads.found.1 in (at.good, omega (arith, at.height, at.fits))
+            fits : k.holds room item.node
+            fits = reads.found.1.holds
 
-            onward : (xs : List (Listed X)) (l : Option X) (t : Token) (more : List Piece) (ys : List (Listed X)) → xs ≡ front ++ ys → Reads m (inside ys l (closing t more)) → AllFit ys l
-                → (zs : List (Listed X)) × (xs ≡ (front ++ listed ∷ []) ++ zs) × Reads q (inside zs l (closing t more)) × AllFit zs l
+            onward : (xs : List (Listed X)) (l : Option X) (t : Token) (more : List Piece) (ys : List (Listed X)) → xs ≡ front ++ ys → Reads m (inside ys l (closing t more)) → AllHold k room ys l
+                → (zs : List (Listed X)) × (xs ≡ (front ++ listed ∷ []) ++ zs) × Reads q (inside zs l (closing t more)) × AllHold k room zs l
             onward xs None t more [] e r fit = absurd (other_told close closes.plain m asked next other t more r)
             onward xs (Some y) t more [] e r fit =
                 let b = one_last y t more r fit.end in
@@ -242,20 +197,19 @@ module _ {X : Type 0} (k : ItemKind X) (close : TokenKind) (room : ℕ) where
     -- no item follows
     pub all_read : (p m : Place) (front : List (Listed X)) (last : Option X) (asked : TokenKind) → IsNextKind m asked → (is_some last ≡ false → is close asked ≡ true) → BeginsElse k close → AreRead p front last m
         → (x : Tall (Inside X)) (rest : List Piece) → CanBeRead p x rest → (front ≡ x.node.front) × (last ≡ x.node.last) × Reads m rest
-    unfolding AllOf
-    all_read p m front (Some y) asked next here begins done x rest can = by_bracket p x rest can (λ t more same r fit.
+      all_read p m front (Some y) asked next here begins done x rest can = by_bracket p x rest can (λ t more same r fit.
         let a = done.only x.node.front x.node.last t more r fit in (sym a.0, sym a.1, subst (Reads m) (sym same) a.2))
     all_read p m front None asked next here begins done x rest can = by_bracket p x rest can (λ t more same r fit.
         let a = done.only x.node.front x.node.last t more r fit in
         let w = whole x.node.front t more x.node.last a.0 a.1 a.2 a.3 in
         (w.0, w.1, subst (Reads m) (sym same) w.2))
       where
-        never : (y : X) (rest : List Piece) → Reads m (k.line y rest) → Fits y → AfterItem k y rest → ⊥
+        never : (y : X) (rest : List Piece) → Reads m (k.line y rest) → k.holds room y → AfterItem k y rest → ⊥
         never y rest r fit after =
             let t = next_of close closes.some m asked next (here refl) in
-            true≢false (sym (ap (is close) t.3 ∙ is_itself close) ∙ begins y rest fit.0 after m r t.0 t.1 t.2 (ap (reads goal.Operator) t.3 ∙ closes.plain))
+            true≢false (sym (ap (is close) t.3 ∙ is_itself close) ∙ begins room y rest fit after m r t.0 t.1 t.2 (ap (reads goal.Operator) t.3 ∙ closes.plain))
 
-        whole : (xs : List (Listed X)) (t : Token) (more : List Piece) (l : Option X) (ys : List (Listed X)) → xs ≡ front ++ ys → Reads m (inside ys l (closing t more)) → AllFit ys l
+        whole : (xs : List (Listed X)) (t : Token) (more : List Piece) (l : Option X) (ys : List (Listed X)) → xs ≡ front ++ ys → Reads m (inside ys l (closing t more)) → AllHold k room ys l
             → (front ≡ xs) × (◌≡◌ {A = Option X} None l) × Reads m (closing t more)
         whole xs t more None [] e r fit = (sym (e ∙ append-nil front), refl, r)
         whole xs t more (Some y) [] e r fit = absurd (never y (closing t more) r fit.end.0 (before_close y t more fit.end))

@@ -1,6 +1,5 @@
 -- Items by commas in brackets, as they are read.
-use Rattle.std.specs.Prelude.{◌≡◌, ℕ, ◌≤◌, max, List, [], ◌∷◌, ◌++◌, Option, Some, None, Bool, true, false, ◌&&◌, Result}
-use Rattle.std.specs.List.{list_all}
+use Rattle.std.specs.Prelude.{◌≡◌, ℕ, ◌≤◌, max, List, [], ◌∷◌, ◌++◌, Option, Some, None, Bool, true, false, Result}
 use Rattle.js_tree.specs.declared.lists.Element.{Element}
 use Rattle.js_tree.specs.declared.lists.Listed.{Listed}
 use Rattle.js_tree.specs.declared.token.Token.{Token}
@@ -11,7 +10,7 @@ use Rattle.js_tree.specs.declared.tree.Slot.{Slot}
 use Rattle.js_tree.specs.Lexing.{Place}
 use Rattle.js_tree.specs.Pieces.{Piece, Tok, Onto}
 use Rattle.js_tree.specs.Spelling.{expr, slot, tallest_of}
-use Rattle.js_tree.specs.Spelling.Nodes.{ASSIGN, passes, pieces}
+use Rattle.js_tree.specs.Spelling.Nodes.{ASSIGN, pieces}
 use Rattle.js_tree.specs.Spelling.Rows.{each_of, element_row, listed_row, mark, maybe}
 use Rattle.js_tree.specs.TokenKinds.{is}
 use Rattle.js_tokens.specs.Ahead.{reads}
@@ -56,20 +55,29 @@ pub record Opens (begin : TokenKind) : Type 0 where
 
 -- ITEMS
 
--- what is asked of the items of a list: how each is spelled, which may stand, which may stand last with no comma behind
--- them, and how tall each is
-pub record ItemKind (X : Type 0) : Type 0 where
+-- P holds of each item
+abbrev pub Every : {X : Type 0} → (X → Type 0) → List (Listed X) → Type 0
+Every P [] = Unit {0}
+Every P (x ∷ xs) = P x.item × Every P xs
+
+-- P holds of what is there
+abbrev pub IfThere : {X : Type 0} → (X → Type 0) → Option X → Type 0
+IfThere P None = Unit {0}
+IfThere P (Some x) = P x
+
+-- what is asked of the items of a list: how each is spelled, which may stand in a room, which may stand last with no comma
+-- behind them, and how tall each is
+pub record ItemKind (X : Type 0) : Type 1 where
   pub line : X → Onto
-  pub stands : X → Bool
+  pub holds : ℕ → X → Type 0
   pub ends : X → Bool
   pub tall : X → ℕ
 
 module _ {X : Type 0} (k : ItemKind X) where
-  -- an item that may stand, no taller than the room, with its height
+  -- an item that may stand in the room, with its height
   pub record ItemAt (room : ℕ) (x : Tall X) : Type 0 where
-    pub good : k.stands x.node ≡ true
+    pub holds : k.holds room x.node
     pub height : x.height ≡ k.tall x.node
-    pub fits : x.height ≤ room
 
   -- no expression goes on, and a comma follows an item that may not be the last
   abbrev pub AfterItem : X → List Piece → Type 0
@@ -80,18 +88,24 @@ module _ {X : Type 0} (k : ItemKind X) where
 
   -- no item begins with the bracket that closes
   abbrev pub BeginsElse : TokenKind → Type 0
-  BeginsElse close = (x : X) (rest : List Piece) → k.stands x ≡ true → AfterItem x rest → NoKind (is close) (k.line x rest)
+  BeginsElse close = (room : ℕ) (x : X) (rest : List Piece) → k.holds room x → AfterItem x rest → NoKind (is close) (k.line x rest)
 
   -- ALL ITEMS
 
   abbrev pub inside_line : Inside X → Onto
   inside_line x rest = each_of (listed_row pieces k.line) x.front (maybe k.line x.last rest)
 
+  -- the item may stand, and be the last
+  abbrev pub HoldsLast : ℕ → X → Type 0
+  HoldsLast room x = k.holds room x × (k.ends x ≡ true)
+
+  pub record AllHold (room : ℕ) (front : List (Listed X)) (last : Option X) : Type 0 where
+    pub each : Every (k.holds room) front
+    pub end : IfThere (HoldsLast room) last
+
   pub record InsideAt (room : ℕ) (x : Tall (Inside X)) : Type 0 where
-    pub each : list_all (λ y. k.stands y.item) x.node.front ≡ true
-    pub end : passes (λ y. k.stands y && k.ends y) x.node.last ≡ true
+    pub all : AllHold room x.node.front x.node.last
     pub height : x.height ≡ inside_height k.tall x.node.front x.node.last
-    pub fits : x.height ≤ room
 
   abbrev pub ReadsInside : TokenKind → ℕ → Place → Place → Result (Tall (Inside X)) TokenFault → Type 0
   ReadsInside close room = ReadsMaybe (λ x. inside_line x.node) (InsideAt room) (λ x. Before close)
@@ -109,9 +123,9 @@ module _ {X : Type 0} (k : ItemKind X) where
 
 -- ARGUMENTS AND PARAMETERS
 
--- elements, each of which may stand last
+-- elements as is asked, each of which may stand last
 abbrev pub element_kind : {Y : Type 0} → (Y → Onto) → (Element Y → Bool) → (Y → ℕ) → ItemKind (Element Y)
-element_kind line stands tall = record { line = element_row pieces line; stands = stands; ends = λ x. true; tall = λ x. tall x.value }
+element_kind line stands tall = record { line = element_row pieces line; holds = λ room x. (stands x ≡ true) × (tall x.value ≤ room); ends = λ x. true; tall = λ x. tall x.value }
 
 abbrev pub argument_kind : ItemKind (Element Expr)
 argument_kind = element_kind expr_line argument_stands (λ (x : Expr). (expr x).height)

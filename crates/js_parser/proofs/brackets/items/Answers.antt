@@ -2,7 +2,7 @@ use Rattle.std.proofs.Common.{max, refl, sym, ap, ◌∙◌, subst, arith, List,
 use Rattle.js_tree.specs.declared.lists.Listed.{Listed}
 use Rattle.js_tokens.specs.declared.fault.TokenFault.TheVariants as fault
 use Rattle.js_parser.proofs.BracketLemmas.{both_not, not_both, puts_height}
-use Rattle.js_parser.proofs.ItemLemmas.{AreRead, all_read, comma_lacks, comma_refused, inside_at, item_refused, none_read, one_more, open_end, puts_fewer}
+use Rattle.js_parser.proofs.ItemLemmas.{AreRead, all_read, comma_lacks, comma_refused, item_refused, none_read, one_more, open_end, puts_fewer}
 use Rattle.js_parser.proofs.PlaceLemmas.{passes_none, passes_on}
 use Rattle.js_parser.proofs.ReadLemmas.{failed_maybe}
 use Rattle.js_parser.specs.Brackets.{Puts, inside_height}
@@ -84,7 +84,7 @@ returns g c =
     let i = c.items.invariant in
     record {
       reads = record {
-        found = (i.read.found, inside_at k c.args.close room c.requires.closes _ _ _ i.read.fit i.height);
+        found = (i.read.found, record { all = i.read.fit; height = i.height });
         only = λ x rest q at b.
             let a = all_read k c.args.close room c.requires.closes _ _ _ _ _ c.kind.ensures (not_both _ _ (sym c.goes_on.ensures ∙ c.items-test.false)) c.requires.other i.read x rest (q, at, b) in
             (λ j. record { node = record { front = a.0 j; last = a.1 j }; height = (i.height ∙ (λ h. inside_height k.tall (a.0 h) (a.1 h)) ∙ sym at.height) j }, a.2);

@@ -16,7 +16,7 @@ use Rattle.js_parser.specs.declared.tall.Tall.{Tall}
 use Rattle.js_parser.proofs.grammar.Grammar.argument.Goals as goal
 
 value_in : (room : ℕ) (x : Tall (Element Expr)) → ItemAt argument_kind room x → ValueAt ASSIGN room (value_of x.node.value)
-value_in room x at = value_at ASSIGN room x.node.value at.good (omega (arith, at.height, at.fits))
+value_in room x at = value_at ASSIGN room x.node.value at.holds.0 at.holds.1
 
 ends : (x : Expr) (rest : List Piece) → Stops ASSIGN rest → ValueStops ASSIGN (value_of x) rest
 ends x rest s = rests ASSIGN (value_of x) rest (omega arith) s
@@ -44,7 +44,7 @@ returns g c = record {
   reads = record {
     found = (
       λ rest r. c.in_ok-dots.ensures.reads.found.0 (expr_line c.in_ok-value.value.node rest) (c.in_ok-value.ensures.reads.found.0 rest r),
-      let w = c.in_ok-value.ensures.reads.found.1 in record { good = w.stands; height = w.height; fits = w.fits },
+      let w = c.in_ok-value.ensures.reads.found.1 in record { holds = (w.stands, omega (arith, w.height, w.fits)); height = w.height },
     );
     only = λ x rest r at s.
         let g0 = c.in_ok-dots.ensures.reads.only x.node.dots (expr_line x.node.value rest) r tt (undotted x.node.dots x.node.value rest) in
