@@ -7,17 +7,17 @@ use Rattle.js_tree.specs.declared.lists.Tail.{Tail}
 use Rattle.js_tree.specs.declared.token.Token.{Token}
 use Rattle.js_tree.specs.declared.token_kind.TokenKind.{TokenKind}
 use Rattle.js_tree.specs.declared.tree.Expr.{Expr, out-Expr}
-use Rattle.js_tree.specs.declared.tree.Function.{Function, out-Function}
+use Rattle.js_tree.specs.declared.tree.Function.{out-Function}
 use Rattle.js_tree.specs.declared.tree.Key.{out-Key}
-use Rattle.js_tree.specs.declared.tree.Pattern.{Pattern, out-Pattern}
+use Rattle.js_tree.specs.declared.tree.Pattern.{out-Pattern}
 use Rattle.js_tree.specs.declared.tree.PatternProperty.{out-PatternProperty}
 use Rattle.js_tree.specs.declared.tree.Property.{out-Property}
-use Rattle.js_tree.specs.declared.tree.Slot.{Slot, out-Slot}
+use Rattle.js_tree.specs.declared.tree.Slot.{out-Slot}
 use Rattle.js_tree.specs.declared.tree.Stmt.{Stmt, out-Stmt}
 use Rattle.js_tree.specs.Line.{LineItem, AToken, ANode, items, possible, line_of, spelling_of, tokens_in, tokens_at, work_for}
 use Rattle.js_tree.specs.Parts.{Node, NodeWriter, AnExpr, AFunction, AKey, APattern, APatternProperty, AProperty, AStmt, ASlot, ATail, ABody, each_tail, nodes, tails_behind, parts, count, left_in}
 use Rattle.js_tree.specs.Pieces.{Piece, Tok, tokens}
-use Rattle.js_tree.specs.Spelling.{expr, function, key, pattern, pattern_property, property, stmt, slot, stmts}
+use Rattle.js_tree.specs.Spelling.{expr, stmts}
 use Rattle.js_tree.specs.Spelling.Expressions.{expr_musts, expr_row}
 use Rattle.js_tree.specs.Spelling.Functions.{function_musts, function_row}
 use Rattle.js_tree.specs.Spelling.Statements.{stmt_musts, stmt_row}

@@ -13,10 +13,9 @@ use Rattle.js_tree.specs.declared.lists.ArrowParams.TheVariants as shape
 use Rattle.js_tree.specs.declared.lists.Tail.{Tail}
 use Rattle.js_tree.specs.declared.tree.Expr.{Expr, out-Expr}
 use Rattle.js_tree.specs.declared.tree.Expr.TheOpen.{Expr-F, Function-F, Pattern-F}
-use Rattle.js_tree.specs.declared.tree.Function.{Function, out-Function}
-use Rattle.js_tree.specs.declared.tree.Pattern.{Pattern, out-Pattern}
+use Rattle.js_tree.specs.declared.tree.Function.{out-Function}
+use Rattle.js_tree.specs.declared.tree.Pattern.{out-Pattern}
 use Rattle.js_tree.specs.declared.tree.Slot.{Slot}
-use Rattle.js_tree.specs.declared.tree.Stmt.{Stmt}
 use Rattle.js_tree.specs.declared.tree.Tree.{Tree}
 use Rattle.js_tree.specs.Folds.{ExprLayer, FunctionLayer, PatternLayer}
 use Rattle.js_tree.specs.declared.part.RegexPart.TheVariants as regex_part

@@ -1,18 +1,18 @@
 -- The line of a node as tokens and nodes one after another, and what they are as tokens.
-use Rattle.std.specs.Prelude.{ℕ, ◌+◌, List, [], ◌∷◌, ◌++◌, length, Option}
+use Rattle.std.specs.Prelude.{ℕ, ◌+◌, List, [], ◌∷◌, length, Option}
 use Rattle.js_tree.specs.declared.line.LineItem.{LineItem as Given}
 use Rattle.js_tree.specs.declared.line.LineItem.TheVariants as given
 use Rattle.js_tree.specs.declared.lists.Bracket.{Bracket}
 use Rattle.js_tree.specs.declared.lists.Tail.{Tail}
 use Rattle.js_tree.specs.declared.token.Token.{Token}
 use Rattle.js_tree.specs.declared.tree.Expr.{Expr, out-Expr}
-use Rattle.js_tree.specs.declared.tree.Function.{Function, out-Function}
-use Rattle.js_tree.specs.declared.tree.Key.{Key, out-Key}
-use Rattle.js_tree.specs.declared.tree.Pattern.{Pattern, out-Pattern}
-use Rattle.js_tree.specs.declared.tree.PatternProperty.{PatternProperty, out-PatternProperty}
-use Rattle.js_tree.specs.declared.tree.Property.{Property, out-Property}
-use Rattle.js_tree.specs.declared.tree.Slot.{Slot, out-Slot}
-use Rattle.js_tree.specs.declared.tree.Stmt.{Stmt, out-Stmt}
+use Rattle.js_tree.specs.declared.tree.Function.{out-Function}
+use Rattle.js_tree.specs.declared.tree.Key.{out-Key}
+use Rattle.js_tree.specs.declared.tree.Pattern.{out-Pattern}
+use Rattle.js_tree.specs.declared.tree.PatternProperty.{out-PatternProperty}
+use Rattle.js_tree.specs.declared.tree.Property.{out-Property}
+use Rattle.js_tree.specs.declared.tree.Slot.{out-Slot}
+use Rattle.js_tree.specs.declared.tree.Stmt.{out-Stmt}
 use Rattle.js_tree.specs.Parts.{Node, AnExpr, AFunction, AKey, APattern, APatternProperty, AProperty, AStmt, ASlot, ATail, ABody, NodeWriter, node_of, count, each_tail}
 use Rattle.js_tree.specs.Pieces.{Onto, tokens}
 use Rattle.js_tree.specs.Spelling.{expr, function, key, pattern, pattern_property, property, stmt, slot, stmts}

@@ -43,7 +43,8 @@ pub fn push_tails<'t>(
     tails: &'t [Tail<Boxed<Expr>>],
     out: &mut Vec<LineItem<'t>>,
 ) -> Result<(), OutOfMemory>
-    ensures { OnOk result (Adds item_of (tail_items head.now [] tails.now) out.old.items out.new.items) }
+    ensures { OnOk result (Adds item_of (tail_items head.now [] tails.now)
+        out.old.items out.new.items) }
 {
     for at in 0..tails.len() {
         let node = Node::Tail {

@@ -42,7 +42,8 @@ pub fn push_tails<'t>(
     tails: &'t [Tail<Boxed<Expr>>],
     out: &mut Vec<Node<'t>>,
 ) -> Result<(), OutOfMemory>
-    ensures { OnOk result (Adds node_of (tails_behind head.now [] tails.now) out.old.items out.new.items) }
+    ensures { OnOk result (Adds node_of (tails_behind head.now [] tails.now)
+        out.old.items out.new.items) }
 {
     for at in 0..tails.len() {
         let node = Node::Tail {

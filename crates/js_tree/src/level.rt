@@ -26,7 +26,8 @@ pub enum Level {
     Postfix,
 }
 
-/// Whether the level takes the expression (ECMA-262, 12.3 to 12.16). What stands in it plays no part.
+/// Whether the level takes the expression (ECMA-262, 12.3 to 12.16). What stands in it plays no
+/// part.
 pub fn admits(level: Level, expr: &Expr) -> bool
     ensures { result ≡ takes level (seen expr.now).rank }
 {
@@ -124,8 +125,8 @@ fn reaches(level: Level, rank: u32) -> bool
     }
 }
 
-/// Whether the expression is a target: a name, a chain that ends in a member, or a target in round brackets
-/// (ECMA-262, 12.15.3). The call goes as deep as round brackets are nested.
+/// Whether the expression is a target: a name, a chain that ends in a member, or a target in round
+/// brackets (ECMA-262, 12.15.3). The call goes as deep as round brackets are nested.
 pub fn is_target(expr: &Expr) -> bool
     ensures { result ≡ (seen expr.now).is_target }
 {

@@ -1,8 +1,9 @@
 //! Tokens, the trees that they spell, and how a text spells a tree (ECMA-262, clauses 11 to 15).
 //!
-//! Read `token` and `tree` with its `lists`, then `node` with its parts and `walk`, by which analyses go over a tree,
-//! and `level`. Of the specs `Lexical`, `Spelling`, `Spells` and `Parts` are promised; `Pieces`, `TokenKinds`,
-//! `Operators`, `Lexing` and `Folds` serve them, and `Tokens` says what a walk asks of a node.
+//! Read `token` and `tree` with its `lists`, then `node` with its parts and `walk`, by which
+//! analyses go over a tree, and `level`. Of the specs `Lexical`, `Spelling`, `Spells` and `Parts` are
+//! promised; `Pieces`, `TokenKinds`, `Operators`, `Lexing` and `Folds` serve them, `Adds` says what a
+//! call adds to a list, and `Tokens` what a walk asks of a node.
 #![tactic(auto)]
 
 mod escape;

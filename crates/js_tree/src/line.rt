@@ -24,14 +24,16 @@ pub enum LineItem<'t> {
 
 /// Adds the line of a node.
 pub fn push_line<'t>(node: Node<'t>, out: &mut Vec<LineItem<'t>>) -> Result<(), OutOfMemory>
-    ensures { OnOk result (map item_of out.new.items ≡ map item_of out.old.items ++ line_of (node_of node.entry)) }
+    ensures { OnOk result (map item_of out.new.items
+        ≡ map item_of out.old.items ++ line_of (node_of node.entry)) }
 {
     push_row(node, out)
 }
 
 // The same, whatever follows.
 fn push_row<'t>(node: Node<'t>, out: &mut Vec<LineItem<'t>>) -> Result<(), OutOfMemory>
-    ensures { OnOk result (Adds item_of (line_row (node_of node.entry)) out.old.items out.new.items) }
+    ensures { OnOk result (Adds item_of (line_row (node_of node.entry))
+        out.old.items out.new.items) }
 {
     match node {
         Node::Expr(value) => push_expr(value, out),
@@ -125,7 +127,8 @@ fn push_expr<'t>(value: &'t Expr, out: &mut Vec<LineItem<'t>>) -> Result<(), Out
 }
 
 fn push_function<'t>(function: &'t Function, out: &mut Vec<LineItem<'t>>) -> Result<(), OutOfMemory>
-    ensures { OnOk result (Adds item_of (line_row (AFunction function.now)) out.old.items out.new.items) }
+    ensures { OnOk result (Adds item_of (line_row (AFunction function.now))
+        out.old.items out.new.items) }
 {
     match function {
         Function::Keyword {
@@ -174,7 +177,8 @@ fn push_key<'t>(key: &'t Key, out: &mut Vec<LineItem<'t>>) -> Result<(), OutOfMe
 }
 
 fn push_pattern<'t>(pattern: &'t Pattern, out: &mut Vec<LineItem<'t>>) -> Result<(), OutOfMemory>
-    ensures { OnOk result (Adds item_of (line_row (APattern pattern.now)) out.old.items out.new.items) }
+    ensures { OnOk result (Adds item_of (line_row (APattern pattern.now))
+        out.old.items out.new.items) }
 {
     match pattern {
         Pattern::Name(token) => push_token(token, out),
@@ -193,7 +197,8 @@ fn push_pattern_property<'t>(
     property: &'t PatternProperty,
     out: &mut Vec<LineItem<'t>>,
 ) -> Result<(), OutOfMemory>
-    ensures { OnOk result (Adds item_of (line_row (APatternProperty property.now)) out.old.items out.new.items) }
+    ensures { OnOk result (Adds item_of (line_row (APatternProperty property.now))
+        out.old.items out.new.items) }
 {
     match property {
         PatternProperty::Keyed { key, colon, slot } => {
@@ -210,7 +215,8 @@ fn push_pattern_property<'t>(
 }
 
 fn push_property<'t>(property: &'t Property, out: &mut Vec<LineItem<'t>>) -> Result<(), OutOfMemory>
-    ensures { OnOk result (Adds item_of (line_row (AProperty property.now)) out.old.items out.new.items) }
+    ensures { OnOk result (Adds item_of (line_row (AProperty property.now))
+        out.old.items out.new.items) }
 {
     match property {
         Property::Pair { key, colon, value } => {
@@ -227,7 +233,8 @@ fn push_property<'t>(property: &'t Property, out: &mut Vec<LineItem<'t>>) -> Res
 }
 
 fn push_stmt<'t>(statement: &'t Stmt, out: &mut Vec<LineItem<'t>>) -> Result<(), OutOfMemory>
-    ensures { OnOk result (Adds item_of (line_row (AStmt statement.now)) out.old.items out.new.items) }
+    ensures { OnOk result (Adds item_of (line_row (AStmt statement.now))
+        out.old.items out.new.items) }
 {
     match statement {
         Stmt::Plain { value, semi } => {
@@ -265,7 +272,8 @@ fn push_tail<'t>(
     tail: &'t Tail<Boxed<Expr>>,
     out: &mut Vec<LineItem<'t>>,
 ) -> Result<(), OutOfMemory>
-    ensures { OnOk result (Adds item_of (tail_row given_marks items.expr tail.now) out.old.items out.new.items) }
+    ensures { OnOk result (Adds item_of (tail_row given_marks items.expr tail.now)
+        out.old.items out.new.items) }
 {
     match tail {
         Tail::Member { dot, name } => {
@@ -284,7 +292,8 @@ fn push_tail<'t>(
 
 /// Adds a token.
 pub fn push_token<'t>(token: &'t Token, out: &mut Vec<LineItem<'t>>) -> Result<(), OutOfMemory>
-    ensures { OnOk result (Adds item_of (λ rest. AToken token.now ∷ rest) out.old.items out.new.items) }
+    ensures { OnOk result (Adds item_of (λ rest. AToken token.now ∷ rest)
+        out.old.items out.new.items) }
 {
     out.push(LineItem::Token(token))?;
     Ok(())
@@ -292,7 +301,8 @@ pub fn push_token<'t>(token: &'t Token, out: &mut Vec<LineItem<'t>>) -> Result<(
 
 /// Adds a node.
 pub fn push_node<'t>(node: Node<'t>, out: &mut Vec<LineItem<'t>>) -> Result<(), OutOfMemory>
-    ensures { OnOk result (Adds item_of (λ rest. ANode (node_of node.entry) ∷ rest) out.old.items out.new.items) }
+    ensures { OnOk result (Adds item_of (λ rest. ANode (node_of node.entry) ∷ rest)
+        out.old.items out.new.items) }
 {
     out.push(LineItem::Node(node))?;
     Ok(())

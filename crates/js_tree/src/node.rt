@@ -45,14 +45,16 @@ pub enum Node<'t> {
 
 /// Adds the parts of a node, in the order of the text.
 pub fn push_parts<'t>(node: Node<'t>, out: &mut Vec<Node<'t>>) -> Result<(), OutOfMemory>
-    ensures { OnOk result (map node_of out.new.items ≡ map node_of out.old.items ++ parts (node_of node.entry)) }
+    ensures { OnOk result (map node_of out.new.items
+        ≡ map node_of out.old.items ++ parts (node_of node.entry)) }
 {
     push_row(node, out)
 }
 
 // The same, whatever follows.
 fn push_row<'t>(node: Node<'t>, out: &mut Vec<Node<'t>>) -> Result<(), OutOfMemory>
-    ensures { OnOk result (Adds node_of (parts_row (node_of node.entry)) out.old.items out.new.items) }
+    ensures { OnOk result (Adds node_of (parts_row (node_of node.entry))
+        out.old.items out.new.items) }
 {
     match node {
         Node::Expr(value) => push_in_expr(value, out),
@@ -73,7 +75,8 @@ fn push_row<'t>(node: Node<'t>, out: &mut Vec<Node<'t>>) -> Result<(), OutOfMemo
 }
 
 fn push_in_expr<'t>(value: &'t Expr, out: &mut Vec<Node<'t>>) -> Result<(), OutOfMemory>
-    ensures { OnOk result (Adds node_of (parts_row (AnExpr value.now)) out.old.items out.new.items) }
+    ensures { OnOk result (Adds node_of (parts_row (AnExpr value.now))
+        out.old.items out.new.items) }
 {
     match value {
         Expr::Name(_) => Ok(()),
@@ -145,7 +148,8 @@ fn push_in_expr<'t>(value: &'t Expr, out: &mut Vec<Node<'t>>) -> Result<(), OutO
 }
 
 fn push_in_function<'t>(function: &'t Function, out: &mut Vec<Node<'t>>) -> Result<(), OutOfMemory>
-    ensures { OnOk result (Adds node_of (parts_row (AFunction function.now)) out.old.items out.new.items) }
+    ensures { OnOk result (Adds node_of (parts_row (AFunction function.now))
+        out.old.items out.new.items) }
 {
     match function {
         Function::Keyword {
@@ -190,7 +194,8 @@ fn push_in_key<'t>(key: &'t Key, out: &mut Vec<Node<'t>>) -> Result<(), OutOfMem
 }
 
 fn push_in_pattern<'t>(pattern: &'t Pattern, out: &mut Vec<Node<'t>>) -> Result<(), OutOfMemory>
-    ensures { OnOk result (Adds node_of (parts_row (APattern pattern.now)) out.old.items out.new.items) }
+    ensures { OnOk result (Adds node_of (parts_row (APattern pattern.now))
+        out.old.items out.new.items) }
 {
     match pattern {
         Pattern::Name(_) => Ok(()),
@@ -209,7 +214,8 @@ fn push_in_pattern_property<'t>(
     property: &'t PatternProperty,
     out: &mut Vec<Node<'t>>,
 ) -> Result<(), OutOfMemory>
-    ensures { OnOk result (Adds node_of (parts_row (APatternProperty property.now)) out.old.items out.new.items) }
+    ensures { OnOk result (Adds node_of (parts_row (APatternProperty property.now))
+        out.old.items out.new.items) }
 {
     match property {
         PatternProperty::Keyed {
@@ -226,7 +232,8 @@ fn push_in_pattern_property<'t>(
 }
 
 fn push_in_property<'t>(property: &'t Property, out: &mut Vec<Node<'t>>) -> Result<(), OutOfMemory>
-    ensures { OnOk result (Adds node_of (parts_row (AProperty property.now)) out.old.items out.new.items) }
+    ensures { OnOk result (Adds node_of (parts_row (AProperty property.now))
+        out.old.items out.new.items) }
 {
     match property {
         Property::Pair {
@@ -243,7 +250,8 @@ fn push_in_property<'t>(property: &'t Property, out: &mut Vec<Node<'t>>) -> Resu
 }
 
 fn push_in_stmt<'t>(statement: &'t Stmt, out: &mut Vec<Node<'t>>) -> Result<(), OutOfMemory>
-    ensures { OnOk result (Adds node_of (parts_row (AStmt statement.now)) out.old.items out.new.items) }
+    ensures { OnOk result (Adds node_of (parts_row (AStmt statement.now))
+        out.old.items out.new.items) }
 {
     match statement {
         Stmt::Plain { value, semi: _ } => push(Node::Expr(value.get()), out),
@@ -273,7 +281,8 @@ fn push_in_slot<'t>(slot: &'t Slot, out: &mut Vec<Node<'t>>) -> Result<(), OutOf
 }
 
 fn push_in_tail<'t>(tail: &'t Tail<Boxed<Expr>>, out: &mut Vec<Node<'t>>) -> Result<(), OutOfMemory>
-    ensures { OnOk result (Adds node_of (tail_row unmarked nodes.expr tail.now) out.old.items out.new.items) }
+    ensures { OnOk result (Adds node_of (tail_row unmarked nodes.expr tail.now)
+        out.old.items out.new.items) }
 {
     match tail {
         Tail::Member { dot: _, name: _ } => Ok(()),
@@ -289,7 +298,8 @@ fn push_in_tail<'t>(tail: &'t Tail<Boxed<Expr>>, out: &mut Vec<Node<'t>>) -> Res
 
 /// Adds a node.
 pub fn push<'t>(node: Node<'t>, out: &mut Vec<Node<'t>>) -> Result<(), OutOfMemory>
-    ensures { OnOk result (Adds node_of (λ rest. node_of node.entry ∷ rest) out.old.items out.new.items) }
+    ensures { OnOk result (Adds node_of (λ rest. node_of node.entry ∷ rest)
+        out.old.items out.new.items) }
 {
     out.push(node)?;
     Ok(())

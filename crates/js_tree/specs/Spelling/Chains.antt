@@ -1,5 +1,5 @@
 -- What is asked of tails (ECMA-262, 12.3).
-use Rattle.std.specs.Prelude.{List, [], ◌∷◌, Bool, true, false, not}
+use Rattle.std.specs.Prelude.{List, [], ◌∷◌, Bool, true, false}
 use Rattle.std.specs.List.{list_all}
 use Rattle.js_tree.specs.declared.lists.Bracket.{Bracket}
 use Rattle.js_tree.specs.declared.lists.Element.{Element}

@@ -1,5 +1,5 @@
 -- What is seen of a node, by which the nodes around it ask for it.
-use Rattle.std.specs.Prelude.{ℕ, ◌+◌, ◌==◌, max, nat_le, List, [], ◌∷◌, Option, Some, None, is_some, Bool, true, false, ◌&&◌, ◌||◌, not}
+use Rattle.std.specs.Prelude.{ℕ, ◌+◌, max, nat_le, List, [], ◌∷◌, Option, Some, None, is_some, Bool, true, false, ◌&&◌, ◌||◌, not}
 use Rattle.std.specs.List.{list_all}
 use Rattle.std.specs.Str.{bytes_eq}
 use Rattle.js_tree.specs.declared.level.Level.{Level}
@@ -7,7 +7,6 @@ use Rattle.js_tree.specs.declared.level.Level.TheVariants as level
 use Rattle.js_tree.specs.declared.lists.Bracket.{Bracket}
 use Rattle.js_tree.specs.declared.lists.Element.{Element}
 use Rattle.js_tree.specs.declared.lists.Further.{Further}
-use Rattle.js_tree.specs.declared.lists.Tail.{Tail}
 use Rattle.js_tree.specs.Pieces.{Piece, Tok, Must, Ahead, Onto}
 use Rattle.js_tree.specs.Spelling.Rows.{Marks, WriterOf, each_of, maybe, tail_row}
 

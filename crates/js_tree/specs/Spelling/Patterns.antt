@@ -1,5 +1,5 @@
 -- Patterns, their properties and slots (ECMA-262, 12.15.5 and 13.3.3): of what each is made up, and what is asked of it.
-use Rattle.std.specs.Prelude.{ℕ, ◌+◌, ◌==◌, List, [], ◌∷◌, codes, Option, Some, None, is_some, Bool, true, false, ◌&&◌, not, nat_le, if◌then◌else◌}
+use Rattle.std.specs.Prelude.{ℕ, ◌+◌, ◌==◌, List, codes, Option, Some, None, is_some, Bool, true, false, ◌&&◌, not, nat_le, if◌then◌else◌}
 use Rattle.std.specs.Str.{bytes_eq}
 use Rattle.js_tree.specs.declared.lists.Bracket.{Bracket}
 use Rattle.js_tree.specs.declared.lists.Element.{Element}

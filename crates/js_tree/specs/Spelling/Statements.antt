@@ -1,5 +1,5 @@
 -- Statements (ECMA-262, clause 13): of what each is made up, and what is asked of it.
-use Rattle.std.specs.Prelude.{ℕ, ◌+◌, List, [], ◌∷◌, None, is_some, Bool, true, false, ◌&&◌, ◌||◌, not}
+use Rattle.std.specs.Prelude.{◌+◌, List, [], ◌∷◌, None, is_some, Bool, true, false, ◌&&◌, ◌||◌, not}
 use Rattle.js_tree.specs.declared.token_kind.TokenKind.TheVariants as kind
 use Rattle.js_tree.specs.declared.tree.Expr.TheOpen.{Stmt-F}
 use Rattle.js_tree.specs.Folds.{StmtOf}
