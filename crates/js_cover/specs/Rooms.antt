@@ -50,16 +50,16 @@ pub data PropertyAt (R : Expr → Type 0) (n : ℕ) (x : Property) : Type 0 wher
   ShorthandAt : (value : Expr) → out-Property x ≡ Property-F.Shorthand value → names_layer (out-Expr value) ≡ true → ItemAt R value → PropertyAt R n x
   SpreadAt : (dots : Token) (value : Expr) → out-Property x ≡ Property-F.Spread dots value → ItemAt R value → PropertyAt R n x
 
--- what is read where the room is 1 more than n
-pub data ReadBy (R : Expr → Type 0) (n : ℕ) (x : Expr) : Type 0 where
-  AsExpr : (expr x).is_sound ≡ true → (expr x).height ≤ suc n → ReadBy R n x
+-- what is read where the room is 1 more than n, and what is assigned is no higher than given
+pub data ReadBy (R : Expr → Type 0) (given n : ℕ) (x : Expr) : Type 0 where
+  AsExpr : (expr x).is_sound ≡ true → (expr x).height ≤ suc n → ReadBy R given n x
   AsInit : (target : Pattern) (op : Token) (value : Expr) → out-Expr x ≡ Expr-F.Assign target op value → (pattern target).is_sound ≡ true
       → (is kind.Assign (kind_at op) || (pattern target).is_target) ≡ true → stands ASSIGN (expr value) ≡ true
-      → (pattern target).height ≤ suc n → (expr value).height ≤ suc n → ReadBy R n x
-  AsArray : (b : Bracket (Option (Element Expr))) → out-Expr x ≡ Expr-F.«Expr::Array» b → Throughout (IfThere (ElementAt R)) b → passes is_some b.last ≡ true → ReadBy R n x
-  AsObject : (b : Bracket Property) → out-Expr x ≡ Expr-F.«Expr::Object» b → Throughout (PropertyAt R n) b → ReadBy R n x
+      → (pattern target).height ≤ given → (expr value).height ≤ given → ReadBy R given n x
+  AsArray : (b : Bracket (Option (Element Expr))) → out-Expr x ≡ Expr-F.«Expr::Array» b → Throughout (IfThere (ElementAt R)) b → passes is_some b.last ≡ true → ReadBy R given n x
+  AsObject : (b : Bracket Property) → out-Expr x ≡ Expr-F.«Expr::Object» b → Throughout (PropertyAt R n) b → ReadBy R given n x
 
--- the expression may be read in the room
+-- the expression may be read in the room, where what is assigned may be as high as the room
 abbrev pub CoverAt : ℕ → Expr → Type 0
 CoverAt zero x = ⊥
-CoverAt (suc n) x = ReadBy (CoverAt n) n x
+CoverAt (suc n) x = ReadBy (CoverAt n) (suc n) n x

@@ -65,7 +65,7 @@ pub fn paren_of(
     if !are_plain(front.as_slice()) {
         return Ok(None);
     }
-    let Sequence { first, others } = sequence(alloc, front, value)?;
+    let Sequence { first, others } = sequence_of(alloc, front, value)?;
     if others.is_empty() {
         return Ok(Some(RoundExpr {
             node: Expr::Paren {
@@ -92,7 +92,7 @@ pub fn paren_of(
 }
 
 // The items one after another, with the commas before them.
-fn sequence(
+fn sequence_of(
     alloc: Global,
     front: Items<Listed<Element<Boxed<Expr>>>>,
     last: Boxed<Expr>,

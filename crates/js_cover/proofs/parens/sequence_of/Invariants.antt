@@ -1,6 +1,6 @@
 use Rattle.std.proofs.Common.{◌≡◌, ◌++◌, length, reverse}
 use Rattle.js_cover.specs.Parens.{first_of, others_of}
-use Rattle.js_cover.proofs.parens.sequence.Given as goal
+use Rattle.js_cover.proofs.parens.sequence_of.Given as goal
 
 abbrev pub invariant-loop-listed : goal.invariant-loop-listed
 invariant-loop-listed l = record {
