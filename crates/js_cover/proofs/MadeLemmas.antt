@@ -73,7 +73,7 @@ module _ (begin : Token) (y : Expr) (end : Token) where
       ap (λ (z : Pattern). bound.Paren begin z end) (same ∙ one v.inner v.covers) ∙ v.is
 
   pub paren_no : No (Covers y) → No (Covers (expression.Paren begin y end))
-  paren_no no p c = let v = paren_covers round p begin y end (expression.outs-Paren begin y end) c in no v.inner v.covers
+  paren_no none p c = let v = paren_covers round p begin y end (expression.outs-Paren begin y end) c in none v.inner v.covers
 
   pub paren_no_place : (q : Pattern) → One (Covers y) q → is_place q ≡ false → No (Covers (expression.Paren begin y end))
   paren_no_place q one other p c =
@@ -97,7 +97,7 @@ module _ (b : Bracket (Option (Element Expr))) where
       ap bound.Array (same ∙ one v.slots v.pairs) ∙ v.is
 
   pub array_no : No (InPairs (ItemPair CoversSlot) b) → No (Covers (expression.Array b))
-  array_no no p c = let v = array_covers (expression.Array b) p b (expression.outs-Array b) c in no v.slots v.pairs
+  array_no none p c = let v = array_covers (expression.Array b) p b (expression.outs-Array b) c in none v.slots v.pairs
 
   pub array_no_end : (d : Bracket (Option (Element Slot))) → One (InPairs (ItemPair CoversSlot) b) d → slots_end d ≡ false → No (Covers (expression.Array b))
   array_no_end d one other p c =
@@ -118,7 +118,7 @@ module _ (b : Bracket Property) where
       ap bound.Object (same ∙ one v.properties v.pairs) ∙ v.is
 
   pub object_no : No (InPairs CoversProperty b) → No (Covers (expression.Object b))
-  object_no no p c = let v = object_covers (expression.Object b) p b (expression.outs-Object b) c in no v.properties v.pairs
+  object_no none p c = let v = object_covers (expression.Object b) p b (expression.outs-Object b) c in none v.properties v.pairs
 
   pub object_no_end : (d : Bracket PatternProperty) → One (InPairs CoversProperty b) d → properties_end d ≡ false → No (Covers (expression.Object b))
   object_no_end d one other p c =
@@ -150,7 +150,7 @@ module _ (x : Expr) where
   alone_one p other one s c = let v = alone_covers x s other c in ap slot_alone (one v.target v.covers) ∙ v.is
 
   pub alone_no : is_assign (out-Expr x) ≡ false → No (Covers x) → No (CoversSlot x)
-  alone_no other no s c = let v = alone_covers x s other c in no v.target v.covers
+  alone_no other none s c = let v = alone_covers x s other c in none v.target v.covers
 
 -- PROPERTIES
 
@@ -164,7 +164,7 @@ module _ (key : Key) (colon : Token) (value : Expr) where
       ap (named.Keyed key colon) (one v.slot v.covers) ∙ v.is
 
   pub keyed_no : No (CoversSlot value) → No (CoversProperty (value_of.Pair key colon value))
-  keyed_no no p c = let v = pair_covers (value_of.Pair key colon value) p key colon value (value_of.outs-Pair key colon value) c in no v.slot v.covers
+  keyed_no none p c = let v = pair_covers (value_of.Pair key colon value) p key colon value (value_of.outs-Pair key colon value) c in none v.slot v.covers
 
 module _ (value : Expr) where
   pub named_made : (s : Slot) → CoversSlot value s → is_named s ≡ true → CoversProperty (value_of.Shorthand value) (named.Named s)
@@ -176,7 +176,7 @@ module _ (value : Expr) where
       ap named.Named (one v.slot v.covers) ∙ v.is
 
   pub named_no : No (CoversSlot value) → No (CoversProperty (value_of.Shorthand value))
-  named_no no p c = let v = shorthand_covers (value_of.Shorthand value) p value (value_of.outs-Shorthand value) c in no v.slot v.covers
+  named_no none p c = let v = shorthand_covers (value_of.Shorthand value) p value (value_of.outs-Shorthand value) c in none v.slot v.covers
 
   pub named_no_name : (s : Slot) → One (CoversSlot value) s → is_named s ≡ false → No (CoversProperty (value_of.Shorthand value))
   named_no_name s one other p c =
@@ -193,7 +193,7 @@ module _ (dots : Token) (value : Expr) where
       ap (named.Rest dots) (one v.slot v.covers) ∙ v.is
 
   pub rest_no : No (CoversSlot value) → No (CoversProperty (value_of.Spread dots value))
-  rest_no no p c = let v = spread_covers (value_of.Spread dots value) p dots value (value_of.outs-Spread dots value) c in no v.slot v.covers
+  rest_no none p c = let v = spread_covers (value_of.Spread dots value) p dots value (value_of.outs-Spread dots value) c in none v.slot v.covers
 
   pub rest_no_alone : (s : Slot) → One (CoversSlot value) s → is_alone s ≡ false → No (CoversProperty (value_of.Spread dots value))
   rest_no_alone s one other p c =

@@ -32,7 +32,7 @@ tag (Expr-F.«Expr::Object» properties) = 4
 tag (Expr-F.Assign target op value) = 5
 tag _ = 6
 
-abbrev property_tag : PropertyLayer → ℕ
+abbrev pub property_tag : PropertyLayer → ℕ
 property_tag (Property-F.Pair key colon value) = 0
 property_tag (Property-F.Shorthand value) = 1
 property_tag (Property-F.Spread dots value) = 2

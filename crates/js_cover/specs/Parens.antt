@@ -1,5 +1,5 @@
 -- Items in round brackets as one expression in them, or several by commas (ECMA-262, 12.2.10 and 12.16).
-use Rattle.std.specs.Prelude.{◌≡◌, ℕ, max, List, [], ◌∷◌, Option, Some, None, Bool, true, false, not, OnSome}
+use Rattle.std.specs.Prelude.{◌≡◌, ℕ, max, List, [], ◌∷◌, Option, Some, None, Bool, true, false, not, IfSome}
 use Rattle.js_tree.specs.declared.lists.Bracket.{Bracket}
 use Rattle.js_tree.specs.declared.lists.Element.{Element}
 use Rattle.js_tree.specs.declared.lists.Further.{Further}
@@ -34,7 +34,7 @@ highest_item b = round_row unmarked (λ x h. max (expr x).height h) b 0
 
 -- what is said of the last item, as whether it is a target
 abbrev pub LastIs : Bool → Bracket (Element Expr) → Type 0
-LastIs target b = OnSome b.last (λ x. target ≡ (expr x.value).is_target)
+LastIs target b = IfSome b.last (λ x. target ≡ (expr x.value).is_target)
 
 -- the expression with what it is
 pub record IsRound (b : Bracket (Element Expr)) (x : RoundExpr) : Type 0 where
