@@ -90,7 +90,7 @@ module _ {I J : Type 0} (R : I → J → Type 0) (size : J → ℕ) where
 
 -- THE KINDS
 
-item_is_max : (x : Option (Element Slot)) (h : ℕ) → item_row unmarked (λ (s : Slot) (k : ℕ). max (slot s).height k) x h ≡ max (item_height x) h
+pub item_is_max : (x : Option (Element Slot)) (h : ℕ) → item_row unmarked (λ (s : Slot) (k : ℕ). max (slot s).height k) x h ≡ max (item_height x) h
 item_is_max None h = let goal : h ≡ max 0 h = omega arith in goal
 item_is_max (Some x) h = refl
 

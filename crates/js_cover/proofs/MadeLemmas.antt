@@ -1,11 +1,11 @@
 -- What is made of an expression, by what is made of its parts: that it is covered, and that nothing else is.
-use Rattle.std.proofs.Common.{◌≡◌, List, sym, ap, ◌∙◌, subst, Bool, true, false, true≢false, Option, Some, None}
+use Rattle.std.proofs.Common.{◌≡◌, List, refl, sym, ap, ◌∙◌, subst, Bool, true, false, true≢false, Option, Some, None}
 use Rattle.js_tree.specs.declared.lists.Bracket.{Bracket}
 use Rattle.js_tree.specs.declared.lists.Element.{Element}
 use Rattle.js_tree.specs.declared.lists.Tail.{Tail}
 use Rattle.js_tree.specs.declared.token.Token.{Token}
 use Rattle.js_tree.specs.declared.token_kind.TokenKind.TheVariants as kind
-use Rattle.js_tree.specs.declared.tree.Expr.{Expr, out-Expr}
+use Rattle.js_tree.specs.declared.tree.Expr.{Expr, out-Expr, roll-Expr, roll-out-Expr}
 use Rattle.js_tree.specs.declared.tree.Expr.TheOpen.{Expr-F}
 use Rattle.js_tree.specs.declared.tree.Expr.TheVariants as expression
 use Rattle.js_tree.specs.declared.tree.Key.{Key}
@@ -16,13 +16,13 @@ use Rattle.js_tree.specs.declared.tree.PatternProperty.TheVariants as named
 use Rattle.js_tree.specs.declared.tree.Property.{Property}
 use Rattle.js_tree.specs.declared.tree.Property.TheVariants as value_of
 use Rattle.js_tree.specs.declared.tree.Slot.{Slot, out-Slot, out-roll-Slot}
-use Rattle.js_tree.specs.Folds.{SlotLayer}
+use Rattle.js_tree.specs.Folds.{ExprLayer, SlotLayer}
 use Rattle.js_tree.specs.Pieces.{kind as kind_at}
 use Rattle.js_tree.specs.Spelling.{expr}
 use Rattle.js_tree.specs.TokenKinds.{is as is_kind}
 use Rattle.js_cover.specs.Covers.{SlotBy, Alone, WithInit, PropertyBy, KeyedBy, NamedBy, RestBy, PatternBy, NameBy, MemberBy, ParenBy, ArrayBy, ObjectBy, Covers, CoversSlot, CoversProperty, is_alone, is_assign, is_named, is_place, properties_end, slots_end}
 use Rattle.js_cover.specs.Pairs.{InPairs, ItemPair}
-use Rattle.js_cover.proofs.CoverLemmas.{closes}
+use Rattle.js_cover.proofs.CoverLemmas.{closes, opens}
 use Rattle.js_cover.proofs.ViewLemmas.{alone_covers, array_covers, init_covers, member_covers, name_covers, nothing_covered, object_covers, pair_covers, paren_covers, shorthand_covers, slot_alone, slot_with, spread_covers}
 
 -- an answer is the only one
@@ -31,6 +31,33 @@ One {X} P x = (y : X) → P y → x ≡ y
 
 abbrev pub No : {X : Type 0} → (X → Type 0) → Type 0
 No {X} P = (y : X) → P y → ⊥
+
+-- OTHER KINDS
+
+made_of : (x : Expr) (l : ExprLayer) (y : Expr) → roll-Expr l ≡ y → out-Expr x ≡ l → x ≡ y
+made_of x l y rolls e = sym (roll-out-Expr x) ∙ ap roll-Expr e ∙ rolls
+
+-- what is of none of these kinds covers no pattern
+pub others_no : (x : Expr) → ((t : Token) → x ≡ expression.Name t → ⊥) → ((begin : Token) (y : Expr) (end : Token) → x ≡ expression.Paren begin y end → ⊥)
+    → ((b : Bracket (Option (Element Expr))) → x ≡ expression.Array b → ⊥) → ((b : Bracket Property) → x ≡ expression.Object b → ⊥)
+    → ((head : Expr) (tails : List (Tail Expr)) → x ≡ expression.Chain head tails → ⊥) → No (Covers x)
+others_no x name paren array object chain p c = by_kind (opens x p c)
+  where
+    by_kind : PatternBy Covers x p → ⊥
+    by_kind (NameBy t e o) = name t (made_of x (Expr-F.«Expr::Name» t) (expression.Name t) (expression.rolls-Name t) e)
+    by_kind (MemberBy head tails e target o) = chain head tails (made_of x (Expr-F.Chain head tails) (expression.Chain head tails) (expression.rolls-Chain head tails) e)
+    by_kind (ParenBy begin y end q e d place o) =
+        paren begin y end (made_of x (Expr-F.«Expr::Paren» begin y end) (expression.Paren begin y end) (expression.rolls-Paren begin y end) e)
+    by_kind (ArrayBy b d e pairs ends o) = array b (made_of x (Expr-F.«Expr::Array» b) (expression.Array b) (expression.rolls-Array b) e)
+    by_kind (ObjectBy b d e pairs ends o) = object b (made_of x (Expr-F.«Expr::Object» b) (expression.Object b) (expression.rolls-Object b) e)
+
+pub no_assign : (x : Expr) → ((target : Pattern) (op : Token) (value : Expr) → x ≡ expression.Assign target op value → ⊥) → is_assign (out-Expr x) ≡ false
+no_assign x other = by_layer (out-Expr x) (λ target op value e. other target op value
+    (made_of x (Expr-F.Assign target op value) (expression.Assign target op value) (expression.rolls-Assign target op value) e))
+  where
+    by_layer : (l : ExprLayer) → ((target : Pattern) (op : Token) (value : Expr) → l ≡ Expr-F.Assign target op value → ⊥) → is_assign l ≡ false
+    by_layer (Expr-F.Assign target op value) f = absurd (f target op value refl)
+    by_layer _ f = refl
 
 -- NAMES AND MEMBERS
 
