@@ -18,3 +18,7 @@ abbrev pub MakesNode : {A E N : Type 0} → (A → N) → Result (Option A) E �
 MakesNode node (Ok (Some x)) y = node x ≡ y
 MakesNode node (Ok None) y = ⊥
 MakesNode node (Err e) y = Unit {0}
+
+-- nothing but what is made has the property, unless there is no memory for it
+abbrev pub MakesOnly : {A E : Type 0} → Result (Option A) E → (A → Type 0) → Type 0
+MakesOnly {A} r P = (y : A) → P y → MakesThis r y

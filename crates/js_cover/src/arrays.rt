@@ -2,13 +2,12 @@
 ghost use Rattle.std.specs.Prelude.{◌≡◌, ◌&&◌, is_some};
 ghost use Rattle.std.specs.List.{list_all};
 ghost use Rattle.std.specs.Prelude as prelude;
-ghost use Rattle.js_tree.specs.declared.lists.Bracket.{Bracket};
 ghost use Rattle.js_tree.specs.declared.lists.Element.{Element};
 ghost use Rattle.js_tree.specs.declared.lists.Listed.{Listed};
 ghost use Rattle.js_tree.specs.declared.tree.Expr.TheVariants as expression;
 ghost use Rattle.js_tree.specs.declared.tree.Slot.{Slot};
 ghost use Rattle.js_tree.specs.Spelling.Nodes.{passes, is_plain as stands_plain};
-ghost use Rattle.js_cover.specs.Answers.{Makes, MakesThis};
+ghost use Rattle.js_cover.specs.Answers.{Makes, MakesOnly};
 ghost use Rattle.js_cover.specs.Covers.{Covers, CoversSlot};
 ghost use Rattle.js_cover.specs.Covers as covers;
 ghost use Rattle.js_cover.specs.Pairs.{EachPair, ElementPair, InPairs, ItemPair, MayPair};
@@ -26,7 +25,7 @@ pub fn array_pattern(
     items: Boxed<Bracket<Option<Element<Boxed<Expr>>>>>,
 ) -> Result<Option<Pattern>, AllocError>
     ensures found { Makes result (Covers (expression.Array items)) }
-    ensures only { (p : Pattern) → Covers (expression.Array items) p → MakesThis result p }
+    ensures only { MakesOnly result (Covers (expression.Array items)) }
 {
     let Some(slots) = array_slots(alloc, items.into_inner())? else {
         return Ok(None);
@@ -45,7 +44,7 @@ fn array_slots(
     items: Bracket<Option<Element<Boxed<Expr>>>>,
 ) -> Result<Option<Bracket<Option<Element<Slot>>>>, AllocError>
     ensures found { Makes result (InPairs (ItemPair CoversSlot) items) }
-    ensures only { (d : Bracket (prelude.Option (Element Slot))) → InPairs (ItemPair CoversSlot) items d → MakesThis result d }
+    ensures only { MakesOnly result (InPairs (ItemPair CoversSlot) items) }
 {
     let Bracket {
         open,
@@ -74,7 +73,7 @@ fn front_slots(
     front: Items<Listed<Option<Element<Boxed<Expr>>>>>,
 ) -> Result<Option<Items<Listed<Option<Element<Slot>>>>>, AllocError>
     ensures found { Makes result (EachPair (ItemPair CoversSlot) front) }
-    ensures only { (ys : prelude.List (Listed (prelude.Option (Element Slot)))) → EachPair (ItemPair CoversSlot) front ys → MakesThis result ys }
+    ensures only { MakesOnly result (EachPair (ItemPair CoversSlot) front) }
 {
     let mut left = reversed(alloc, front)?;
     let mut slots = Items::new(alloc);
@@ -95,7 +94,7 @@ fn last_slot(
     last: Option<Option<Element<Boxed<Expr>>>>,
 ) -> Result<Option<Option<Option<Element<Slot>>>>, AllocError>
     ensures found { Makes result (MayPair (ItemPair CoversSlot) last) }
-    ensures only { (y : prelude.Option (prelude.Option (Element Slot))) → MayPair (ItemPair CoversSlot) last y → MakesThis result y }
+    ensures only { MakesOnly result (MayPair (ItemPair CoversSlot) last) }
 {
     let Some(item) = last else {
         return Ok(Some(None));
@@ -113,7 +112,7 @@ fn item_slot(
     item: Option<Element<Boxed<Expr>>>,
 ) -> Result<Option<Option<Element<Slot>>>, AllocError>
     ensures found { Makes result (ItemPair CoversSlot item) }
-    ensures only { (y : prelude.Option (Element Slot)) → ItemPair CoversSlot item y → MakesThis result y }
+    ensures only { MakesOnly result (ItemPair CoversSlot item) }
 {
     let Some(element) = item else {
         return Ok(Some(None));
@@ -131,7 +130,7 @@ pub fn element_slot(
     element: Element<Boxed<Expr>>,
 ) -> Result<Option<Element<Slot>>, AllocError>
     ensures found { Makes result (ElementPair CoversSlot element) }
-    ensures only { (y : Element Slot) → ElementPair CoversSlot element y → MakesThis result y }
+    ensures only { MakesOnly result (ElementPair CoversSlot element) }
 {
     let Element { dots, value } = element;
     let Some(value) = slot_of(alloc, value.into_inner())? else {

@@ -12,8 +12,8 @@ ghost use Rattle.js_tree.specs.Spelling.Patterns.{is_declared as may_be_declared
 
 use js_tree::{Bracket, Element, Listed, Pattern, PatternProperty, Slot};
 
-/// Whether the slot may be declared: no member stands in its pattern, and nothing in round brackets. The call goes as
-/// deep as patterns are nested.
+/// Whether the slot may be declared: no member stands in its pattern, and nothing in round
+/// brackets. The call goes as deep as patterns are nested.
 #[cycle(declared)]
 pub fn is_declared(slot: &Slot) -> bool
     ensures { result ≡ may_be_declared (seen.slot slot.now) }

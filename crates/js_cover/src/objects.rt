@@ -1,13 +1,11 @@
 //! Patterns of what was read as objects (ECMA-262, 12.15.5 and 13.3.3).
 ghost use Rattle.std.specs.Prelude.{◌≡◌};
 ghost use Rattle.std.specs.List.{list_all};
-ghost use Rattle.std.specs.Prelude as prelude;
-ghost use Rattle.js_tree.specs.declared.lists.Bracket.{Bracket};
 ghost use Rattle.js_tree.specs.declared.lists.Listed.{Listed};
 ghost use Rattle.js_tree.specs.declared.tree.Expr.TheVariants as expression;
 ghost use Rattle.js_tree.specs.declared.tree.PatternProperty.{PatternProperty, out-PatternProperty};
 ghost use Rattle.js_tree.specs.declared.tree.Property.TheVariants as properties_of;
-ghost use Rattle.js_cover.specs.Answers.{Makes, MakesThis};
+ghost use Rattle.js_cover.specs.Answers.{Makes, MakesOnly};
 ghost use Rattle.js_cover.specs.Covers.{Covers, CoversProperty};
 ghost use Rattle.js_cover.specs.Covers as covers;
 ghost use Rattle.js_cover.specs.Pairs.{EachPair, InPairs, MayPair};
@@ -25,7 +23,7 @@ pub fn object_pattern(
     properties: Boxed<Bracket<Property>>,
 ) -> Result<Option<Pattern>, AllocError>
     ensures found { Makes result (Covers (expression.Object properties)) }
-    ensures only { (p : Pattern) → Covers (expression.Object properties) p → MakesThis result p }
+    ensures only { MakesOnly result (Covers (expression.Object properties)) }
 {
     let Some(properties) = object_properties(alloc, properties.into_inner())? else {
         return Ok(None);
@@ -44,7 +42,7 @@ fn object_properties(
     properties: Bracket<Property>,
 ) -> Result<Option<Bracket<PatternProperty>>, AllocError>
     ensures found { Makes result (InPairs CoversProperty properties) }
-    ensures only { (d : Bracket PatternProperty) → InPairs CoversProperty properties d → MakesThis result d }
+    ensures only { MakesOnly result (InPairs CoversProperty properties) }
 {
     let Bracket {
         open,
@@ -73,7 +71,7 @@ fn front_properties(
     front: Items<Listed<Property>>,
 ) -> Result<Option<Items<Listed<PatternProperty>>>, AllocError>
     ensures found { Makes result (EachPair CoversProperty front) }
-    ensures only { (ys : prelude.List (Listed PatternProperty)) → EachPair CoversProperty front ys → MakesThis result ys }
+    ensures only { MakesOnly result (EachPair CoversProperty front) }
 {
     let mut left = reversed(alloc, front)?;
     let mut properties = Items::new(alloc);
@@ -94,7 +92,7 @@ fn last_property(
     last: Option<Property>,
 ) -> Result<Option<Option<PatternProperty>>, AllocError>
     ensures found { Makes result (MayPair CoversProperty last) }
-    ensures only { (y : prelude.Option PatternProperty) → MayPair CoversProperty last y → MakesThis result y }
+    ensures only { MakesOnly result (MayPair CoversProperty last) }
 {
     let Some(item) = last else {
         return Ok(Some(None));
@@ -109,7 +107,7 @@ fn last_property(
 #[cycle(cover)]
 fn property(alloc: Global, property: Property) -> Result<Option<PatternProperty>, AllocError>
     ensures found { Makes result (CoversProperty property) }
-    ensures only { (p : PatternProperty) → CoversProperty property p → MakesThis result p }
+    ensures only { MakesOnly result (CoversProperty property) }
 {
     match property {
         Property::Pair { key, colon, value } => keyed(alloc, key, colon, value),
@@ -127,7 +125,7 @@ fn keyed(
     value: Boxed<Expr>,
 ) -> Result<Option<PatternProperty>, AllocError>
     ensures found { Makes result (CoversProperty (properties_of.Pair key colon value)) }
-    ensures only { (p : PatternProperty) → CoversProperty (properties_of.Pair key colon value) p → MakesThis result p }
+    ensures only { MakesOnly result (CoversProperty (properties_of.Pair key colon value)) }
 {
     let Some(slot) = slot_of(alloc, value.into_inner())? else {
         return Ok(None);
@@ -139,7 +137,7 @@ fn keyed(
 #[cycle(cover)]
 fn named(alloc: Global, value: Boxed<Expr>) -> Result<Option<PatternProperty>, AllocError>
     ensures found { Makes result (CoversProperty (properties_of.Shorthand value)) }
-    ensures only { (p : PatternProperty) → CoversProperty (properties_of.Shorthand value) p → MakesThis result p }
+    ensures only { MakesOnly result (CoversProperty (properties_of.Shorthand value)) }
 {
     let Some(slot) = slot_of(alloc, value.into_inner())? else {
         return Ok(None);
@@ -158,7 +156,7 @@ fn rest(
     value: Boxed<Expr>,
 ) -> Result<Option<PatternProperty>, AllocError>
     ensures found { Makes result (CoversProperty (properties_of.Spread dots value)) }
-    ensures only { (p : PatternProperty) → CoversProperty (properties_of.Spread dots value) p → MakesThis result p }
+    ensures only { MakesOnly result (CoversProperty (properties_of.Spread dots value)) }
 {
     let Some(slot) = slot_of(alloc, value.into_inner())? else {
         return Ok(None);

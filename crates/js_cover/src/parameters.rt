@@ -1,15 +1,13 @@
 //! What is declared of what was read as expressions (ECMA-262, 13.3 and 14.2).
 ghost use Rattle.std.specs.Prelude.{◌≡◌};
 ghost use Rattle.std.specs.List.{list_all};
-ghost use Rattle.std.specs.Prelude as prelude;
-ghost use Rattle.js_tree.specs.declared.lists.Bracket.{Bracket};
 ghost use Rattle.js_tree.specs.declared.lists.Element.{Element};
 ghost use Rattle.js_tree.specs.declared.lists.Listed.{Listed};
 ghost use Rattle.js_tree.specs.declared.tree.Slot.{Slot};
 ghost use Rattle.js_tree.specs.Spelling as seen;
 ghost use Rattle.js_tree.specs.Spelling.Nodes.{all_within, passes, is_plain as stands_plain};
 ghost use Rattle.js_tree.specs.Spelling.Patterns.{is_declared as may_be_declared};
-ghost use Rattle.js_cover.specs.Answers.{Makes, MakesThis};
+ghost use Rattle.js_cover.specs.Answers.{Makes, MakesOnly};
 ghost use Rattle.js_cover.specs.Covers.{CoversDeclared, CoversParameters, CoversSlot};
 ghost use Rattle.js_cover.specs.Covers as covers;
 ghost use Rattle.js_cover.specs.Pairs.{EachPair, ElementPair, InPairs, MayPair};
@@ -22,10 +20,11 @@ use js_tree::{Bracket, Element, Expr, Listed, Slot};
 use sqlite_items::{Boxed, Items};
 use std::alloc::{AllocError, Global};
 
-/// The slot with the tokens of the expression, where it may be declared; none where no such slot has them.
+/// The slot with the tokens of the expression, where it may be declared; none where no such slot
+/// has them.
 pub fn declared_of(alloc: Global, cover: Expr) -> Result<Option<Slot>, AllocError>
     ensures found { Makes result (CoversDeclared cover) }
-    ensures only { (s : Slot) → CoversDeclared cover s → MakesThis result s }
+    ensures only { MakesOnly result (CoversDeclared cover) }
 {
     let Some(slot) = slot_of(alloc, cover)? else {
         return Ok(None);
@@ -36,13 +35,14 @@ pub fn declared_of(alloc: Global, cover: Expr) -> Result<Option<Slot>, AllocErro
     Ok(Some(slot))
 }
 
-/// The parameters with the tokens of these items in round brackets; none where no parameters have them.
+/// The parameters with the tokens of these items in round brackets; none where no parameters have
+/// them.
 pub fn parameters_of(
     alloc: Global,
     items: Bracket<Element<Boxed<Expr>>>,
 ) -> Result<Option<Bracket<Element<Slot>>>, AllocError>
     ensures found { Makes result (CoversParameters items) }
-    ensures only { (d : Bracket (Element Slot)) → CoversParameters items d → MakesThis result d }
+    ensures only { MakesOnly result (CoversParameters items) }
 {
     let Some(slots) = round_slots(alloc, items)? else {
         return Ok(None);
@@ -62,7 +62,7 @@ fn round_slots(
     items: Bracket<Element<Boxed<Expr>>>,
 ) -> Result<Option<Bracket<Element<Slot>>>, AllocError>
     ensures found { Makes result (InPairs (ElementPair CoversSlot) items) }
-    ensures only { (d : Bracket (Element Slot)) → InPairs (ElementPair CoversSlot) items d → MakesThis result d }
+    ensures only { MakesOnly result (InPairs (ElementPair CoversSlot) items) }
 {
     let Bracket {
         open,
@@ -90,7 +90,7 @@ fn front_slots(
     front: Items<Listed<Element<Boxed<Expr>>>>,
 ) -> Result<Option<Items<Listed<Element<Slot>>>>, AllocError>
     ensures found { Makes result (EachPair (ElementPair CoversSlot) front) }
-    ensures only { (ys : prelude.List (Listed (Element Slot))) → EachPair (ElementPair CoversSlot) front ys → MakesThis result ys }
+    ensures only { MakesOnly result (EachPair (ElementPair CoversSlot) front) }
 {
     let mut left = reversed(alloc, front)?;
     let mut slots = Items::new(alloc);
@@ -110,7 +110,7 @@ fn last_slot(
     last: Option<Element<Boxed<Expr>>>,
 ) -> Result<Option<Option<Element<Slot>>>, AllocError>
     ensures found { Makes result (MayPair (ElementPair CoversSlot) last) }
-    ensures only { (y : prelude.Option (Element Slot)) → MayPair (ElementPair CoversSlot) last y → MakesThis result y }
+    ensures only { MakesOnly result (MayPair (ElementPair CoversSlot) last) }
 {
     let Some(item) = last else {
         return Ok(Some(None));

@@ -1,7 +1,6 @@
 //! Expressions in round brackets (ECMA-262, 12.2.10 and 12.16).
-ghost use Rattle.std.specs.Prelude.{◌≡◌, ◌+◌, ◌<◌, IfOk};
+ghost use Rattle.std.specs.Prelude.{◌≡◌, ◌<◌, IfOk};
 ghost use Rattle.std.specs.List.{list_all};
-ghost use Rattle.std.specs.Prelude as prelude;
 ghost use Rattle.js_tree.specs.declared.lists.Element.{Element};
 ghost use Rattle.js_tree.specs.declared.lists.Listed.{Listed};
 ghost use Rattle.js_tree.specs.declared.tree.Expr.{Expr};
@@ -35,8 +34,9 @@ struct Sequence {
     others: Items<Further<Boxed<Expr>>>,
 }
 
-/// The expression with the tokens of these items in round brackets: one in them, or several by commas. None where no
-/// expression has the tokens. The caller knows the height of the highest item, and whether the last is a target.
+/// The expression with the tokens of these items in round brackets: one in them, or several by
+/// commas. None where no expression has the tokens. The caller knows the height of the highest
+/// item, and whether the last is a target.
 pub fn paren_of(
     alloc: Global,
     items: Bracket<Element<Boxed<Expr>>>,

@@ -1,7 +1,7 @@
 //! Patterns of what was read as expressions (ECMA-262, 12.15.5).
 ghost use Rattle.std.specs.Prelude.{◌≡◌};
 ghost use Rattle.js_tree.specs.declared.tree.Expr.TheVariants as expression;
-ghost use Rattle.js_cover.specs.Answers.{Makes, MakesThis};
+ghost use Rattle.js_cover.specs.Answers.{Makes, MakesOnly};
 ghost use Rattle.js_cover.specs.Covers.{Covers};
 ghost use Rattle.js_cover.specs.Covers as covers;
 
@@ -11,12 +11,12 @@ use js_tree::{Expr, Pattern, Tail, Token, is_target};
 use sqlite_items::{Boxed, Items};
 use std::alloc::{AllocError, Global};
 
-/// The pattern with the tokens of the expression; none where no pattern has them. The call goes as deep as what is
-/// in the expression.
+/// The pattern with the tokens of the expression; none where no pattern has them. The call goes as
+/// deep as what is in the expression.
 #[cycle(cover)]
 pub fn pattern_of(alloc: Global, cover: Expr) -> Result<Option<Pattern>, AllocError>
     ensures found { Makes result (Covers cover) }
-    ensures only { (p : Pattern) → Covers cover p → MakesThis result p }
+    ensures only { MakesOnly result (Covers cover) }
 {
     match cover {
         Expr::Name(name) => Ok(Some(Pattern::Name(name))),
@@ -35,7 +35,7 @@ fn member_pattern(
     tails: Items<Tail<Boxed<Expr>>>,
 ) -> Result<Option<Pattern>, AllocError>
     ensures found { Makes result (Covers (expression.Chain head tails)) }
-    ensures only { (p : Pattern) → Covers (expression.Chain head tails) p → MakesThis result p }
+    ensures only { MakesOnly result (Covers (expression.Chain head tails)) }
 {
     let chain = Expr::Chain { head, tails };
     if !is_target(&chain) {
@@ -54,7 +54,7 @@ fn paren_pattern(
     end: Token,
 ) -> Result<Option<Pattern>, AllocError>
     ensures found { Makes result (Covers (expression.Paren begin inner end)) }
-    ensures only { (p : Pattern) → Covers (expression.Paren begin inner end) p → MakesThis result p }
+    ensures only { MakesOnly result (Covers (expression.Paren begin inner end)) }
 {
     let Some(inner) = pattern_of(alloc, inner.into_inner())? else {
         return Ok(None);

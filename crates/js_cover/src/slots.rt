@@ -3,7 +3,7 @@ ghost use Rattle.std.specs.Prelude.{◌≡◌, IfSome, false};
 ghost use Rattle.js_tree.specs.declared.tree.Pattern.{out-Pattern};
 ghost use Rattle.js_tree.specs.declared.tree.Expr.{out-Expr};
 ghost use Rattle.js_tree.specs.declared.tree.Expr.TheVariants as expression;
-ghost use Rattle.js_cover.specs.Answers.{Makes, MakesThis};
+ghost use Rattle.js_cover.specs.Answers.{Makes, MakesOnly};
 ghost use Rattle.js_cover.specs.Covers.{CoversSlot, is_assign};
 ghost use Rattle.js_cover.specs.Covers as covers;
 
@@ -13,12 +13,12 @@ use js_tree::{Expr, Init, Pattern, Slot, Token};
 use sqlite_items::Boxed;
 use std::alloc::{AllocError, Global};
 
-/// The slot with the tokens of the expression: what is assigned to by `=`, with the value, or a pattern alone. None
-/// where no slot has the tokens.
+/// The slot with the tokens of the expression: what is assigned to by `=`, with the value, or a
+/// pattern alone. None where no slot has the tokens.
 #[cycle(cover)]
 pub fn slot_of(alloc: Global, cover: Expr) -> Result<Option<Slot>, AllocError>
     ensures found { Makes result (CoversSlot cover) }
-    ensures only { (s : Slot) → CoversSlot cover s → MakesThis result s }
+    ensures only { MakesOnly result (CoversSlot cover) }
 {
     match cover {
         Expr::Assign { target, op, value } => Ok(slot_with_init(target, op, value)),
@@ -45,7 +45,7 @@ fn slot_with_init(target: Boxed<Pattern>, op: Token, value: Boxed<Expr>) -> Opti
 fn slot_alone(alloc: Global, cover: Expr) -> Result<Option<Slot>, AllocError>
     requires kind { is_assign (out-Expr cover) ≡ false }
     ensures found { Makes result (CoversSlot cover) }
-    ensures only { (s : Slot) → CoversSlot cover s → MakesThis result s }
+    ensures only { MakesOnly result (CoversSlot cover) }
 {
     let Some(target) = pattern_of(alloc, cover)? else {
         return Ok(None);
