@@ -100,7 +100,7 @@ good_or_fault : (bytes : List ℕ) (xs : List Advisory) (f : AdvisoryFault) → 
 good_or_fault bytes xs f p (inl q) = cc (p.1, q)
 good_or_fault bytes xs f p (inr q) = let same = one_file bytes p.0 q.0 xs q.1 None (Some f) p.1 q.2 p.2 q.3 in cc (same.1)
 
-IsFault-one : (bytes : List ℕ) (f g : AdvisoryFault) → IsFault bytes f → IsFault bytes g → f ≡ g
+pub IsFault-one : (bytes : List ℕ) (f g : AdvisoryFault) → IsFault bytes f → IsFault bytes g → f ≡ g
 IsFault-one bytes f g (inl p) (inl q) = cc (p, q)
 IsFault-one bytes f g (inl p) (inr q) = absurd (cc (p, q.2))
 IsFault-one bytes f g (inr p) (inl q) = absurd (cc (q, p.2))

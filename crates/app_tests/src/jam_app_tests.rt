@@ -1,5 +1,6 @@
 ghost use Rattle.std.specs.Prelude.{◌≡◌, ◌<◌};
 
+use crate::rows::{RowKind, rows_hold};
 use jam_app::{Status, run};
 use jam_base::{Gate, List, MemFolder, MemKeeper, MemSink, ModulePath, Steps, Text};
 use std::alloc::Global;
@@ -8,6 +9,9 @@ use std::process::Abort;
 use std::sync::ledger::{Blank, Ledger};
 use std::test::Fail;
 use std::thread::Threads;
+
+pub(crate) const HELP: &str =
+    "Tells which functions that advisories name an application can call. Run it in the application folder.\n\nUsage: jam <COMMAND>\n\nCommands:\n  audit  Report which functions that the advisories in a file name the application can call\n  graph  Print the calls that the application of an entry file can make\n\nReport which functions that the advisories in a file name the application can call\n\nUsage: jam audit [OPTIONS] <ADVISORIES>\n\nArguments:\n  <ADVISORIES>  The file of advisories, by its path from the application folder\n\nOptions:\n      --entry <PATH>     The file that the application begins with, as `require` would find it\n      --format <FORMAT>  How the report is written: text or json\n      --skip-refused     Pass over modules outside the profile, with a note, in place of refusing them\n\nExample: jam audit --format json advisories.json\n\nPrint the calls that the application of an entry file can make\n\nUsage: jam graph [OPTIONS] <FILE>\n\nArguments:\n  <FILE>  The file that the application begins with, as `require` would find it\n\nOptions:\n      --skip-refused  Pass over modules outside the profile, with a note, in place of refusing them\n\nExample: jam graph index.js\n";
 
 // What a run is over, and what it left.
 #[derive(Drop)]
@@ -102,67 +106,38 @@ pub(crate) fn compare(
 
 #[test]
 fn a_text_is_taken_or_refused_at_its_place(rt: HostRuntime) -> Result<(), Fail> {
+    rows_hold(&rt, rt.alloc(), RowKind::Text, PLACES)
+}
+
+const PLACES: &str = r#"
+# White space alone.
+ ␍¶
+f()
+    jam: index.js:1:4: not in the profile
+f();␍¶¶ g(; 
+    jam: index.js:3:4: not in the profile
+# A letter with an accent is a name, and a sign of a currency begins no token.
+f(); é
+    jam: index.js:1:7: not in the profile
+f(); €
+    jam: index.js:1:6: not in the profile
+# Greek letters in a string.
+require("./λόγος"); ?
+    jam: index.js:1:21: not in the profile
+"#;
+
+// The mark U+FEFF in front goes, and only that one: the next one is white space.
+#[test]
+fn a_text_may_begin_with_a_mark(rt: HostRuntime) -> Result<(), Fail> {
     let alloc = rt.alloc();
+    let refused = "jam: index.js:1:3: not in the profile\n";
+    let behind = "jam: index.js:1:2: not in the profile\n";
     for (text, number, err) in [
         (b"".as_slice(), 0, ""),
-        (b" \t\r\n".as_slice(), 0, ""),
-        (
-            b"f()".as_slice(),
-            2,
-            "jam: index.js:1:4: not in the profile\n",
-        ),
-        (
-            b"f();\r\n\n g(; ".as_slice(),
-            2,
-            "jam: index.js:3:4: not in the profile\n",
-        ),
-        // U+00E9 is a name, and U+20AC begins no token.
-        (
-            b"f(); \xc3\xa9".as_slice(),
-            2,
-            "jam: index.js:1:7: not in the profile\n",
-        ),
-        (
-            b"f(); \xe2\x82\xac".as_slice(),
-            2,
-            "jam: index.js:1:6: not in the profile\n",
-        ),
-        (
-            b"\xff".as_slice(),
-            2,
-            "jam: index.js:1:1: not in the profile\n",
-        ),
-        // The front U+FEFF goes, and only that one: the next one is white space.
         (b"\xef\xbb\xbff();".as_slice(), 0, ""),
-        (
-            b"\xef\xbb\xbff(".as_slice(),
-            2,
-            "jam: index.js:1:3: not in the profile\n",
-        ),
+        (b"\xef\xbb\xbff(".as_slice(), 2, refused),
         (b"\xef\xbb\xbf\xef\xbb\xbf".as_slice(), 0, ""),
-        (
-            b"\xef\xbb\xbf\xef\xbb\xbf?".as_slice(),
-            2,
-            "jam: index.js:1:2: not in the profile\n",
-        ),
-        // Each byte that begins nothing is a character, and so is the front of one that breaks off.
-        (b"require(\"./\xff\xff\");".as_slice(), 0, ""),
-        (
-            b"require(\"./\xff\xff\"); ?".as_slice(),
-            2,
-            "jam: index.js:1:18: not in the profile\n",
-        ),
-        (
-            b"require(\"./\xe2\x82\"); ?".as_slice(),
-            2,
-            "jam: index.js:1:17: not in the profile\n",
-        ),
-        // Greek letters in a string.
-        (
-            b"require(\"./\xce\xbb\xcf\x8c\xce\xb3\xce\xbf\xcf\x82\"); ?".as_slice(),
-            2,
-            "jam: index.js:1:21: not in the profile\n",
-        ),
+        (b"\xef\xbb\xbf\xef\xbb\xbf?".as_slice(), 2, behind),
     ] {
         let mut bench = set_up(alloc, "index.js", text, 0, 99)?;
         let words = words_of(alloc, "graph ./a/../index.js")?;
@@ -178,23 +153,20 @@ fn a_text_is_taken_or_refused_at_its_place(rt: HostRuntime) -> Result<(), Fail> 
     Ok(())
 }
 
+// Each byte that begins nothing is a character, and so is the front of one that breaks off.
 #[test]
-fn a_construct_is_refused_by_its_name(rt: HostRuntime) -> Result<(), Fail> {
+fn bytes_that_begin_nothing_are_characters(rt: HostRuntime) -> Result<(), Fail> {
     let alloc = rt.alloc();
+    let first = "jam: index.js:1:1: not in the profile\n";
+    let two = "jam: index.js:1:18: not in the profile\n";
+    let one = "jam: index.js:1:17: not in the profile\n";
     for (text, number, err) in [
-        ("eval(\"x\");", 2, "jam: index.js:1:1: eval\n"),
-        ("f();\n  eval /* x */ (g);", 2, "jam: index.js:2:3: eval\n"),
-        ("with (a) b();", 2, "jam: index.js:1:1: with\n"),
-        ("import x from \"y\";", 2, "jam: index.js:1:1: import\n"),
-        ("f(import(\"x\"));", 2, "jam: index.js:1:3: import\n"),
-        ("// x\nexport var a = 1;", 2, "jam: index.js:2:1: export\n"),
-        // The words stand for other things too.
-        ("(0, eval)(\"x\");", 0, ""),
-        ("eval; a.eval(\"x\"); a.with.import.export;", 0, ""),
-        // A name that begins with a word is a name.
-        ("eval2 x;", 2, "jam: index.js:1:7: not in the profile\n"),
+        (b"\xff".as_slice(), 2, first),
+        (b"require(\"./\xff\xff\");".as_slice(), 0, ""),
+        (b"require(\"./\xff\xff\"); ?".as_slice(), 2, two),
+        (b"require(\"./\xe2\x82\"); ?".as_slice(), 2, one),
     ] {
-        let mut bench = set_up(alloc, "index.js", text.as_bytes(), 0, 99)?;
+        let mut bench = set_up(alloc, "index.js", text, 0, 99)?;
         let words = words_of(alloc, "graph index.js")?;
         let status = ran::<HostRuntime, Brand>(
             &rt,
@@ -207,6 +179,32 @@ fn a_construct_is_refused_by_its_name(rt: HostRuntime) -> Result<(), Fail> {
     }
     Ok(())
 }
+
+#[test]
+fn a_construct_is_refused_by_its_name(rt: HostRuntime) -> Result<(), Fail> {
+    rows_hold(&rt, rt.alloc(), RowKind::Text, CONSTRUCTS)
+}
+
+const CONSTRUCTS: &str = r#"
+eval("x");
+    jam: index.js:1:1: eval
+f();¶  eval /* x */ (g);
+    jam: index.js:2:3: eval
+with (a) b();
+    jam: index.js:1:1: with
+import x from "y";
+    jam: index.js:1:1: import
+f(import("x"));
+    jam: index.js:1:3: import
+// x¶export var a = 1;
+    jam: index.js:2:1: export
+# The words stand for other things too.
+(0, eval)("x");
+eval; a.eval("x"); a.with.import.export;
+# A name that begins with a word is a name.
+eval2 x;
+    jam: index.js:1:7: not in the profile
+"#;
 
 #[test]
 fn texts_are_taken_whatever_they_are_written_in(rt: HostRuntime) -> Result<(), Fail> {
@@ -304,25 +302,41 @@ fn brackets_may_nest_254_times(rt: HostRuntime) -> Result<(), Fail> {
 
 #[test]
 fn an_entry_is_a_file_that_can_be_code(rt: HostRuntime) -> Result<(), Fail> {
+    rows_hold(&rt, rt.alloc(), RowKind::Files, ENTRIES)
+}
+
+const ENTRIES: &str = r#"
+index.js graph none.js
+    jam: no entry
+index.js graph ../index.js
+    jam: no entry
+index.js graph index.js/
+    jam: no entry
+index.js graph index.js/.
+    jam: no entry
+index.js graph ..
+    jam: no entry
+b/index.js graph .
+    jam: no entry
+b graph b/c/..
+    jam: no entry
+data.json graph data.json
+    jam: no entry
+addon.node graph addon.node
+    jam: no entry
+index.js graph index
+index.js graph .
+b/index.js graph b
+"#;
+
+#[test]
+fn a_fault_at_the_entry_is_a_failed_read(rt: HostRuntime) -> Result<(), Fail> {
     let alloc = rt.alloc();
-    let none = "jam: no entry\n";
     let failed = "jam: read failed\n";
     for (path, line, failing, number, err) in [
-        ("index.js", "graph none.js", 0, 2, none),
-        ("index.js", "graph ../index.js", 0, 2, none),
-        ("index.js", "graph index.js/", 0, 2, none),
-        ("index.js", "graph index.js/.", 0, 2, none),
-        ("index.js", "graph ..", 0, 2, none),
-        ("a/index.js", "graph .", 0, 2, none),
-        ("a", "graph a/b/..", 0, 2, none),
-        ("data.json", "graph data.json", 0, 2, none),
-        ("addon.node", "graph addon.node", 0, 2, none),
         ("index.js", "graph index.js", 1, 3, failed),
         ("index.js", "graph index.js", 2, 3, failed),
         ("index.js", "graph index.js", 3, 0, ""),
-        ("index.js", "graph index", 0, 0, ""),
-        ("index.js", "graph .", 0, 0, ""),
-        ("a/index.js", "graph a", 0, 0, ""),
         ("a/index.js", "graph a", 5, 3, failed),
         ("a/index.js", "graph a", 6, 3, failed),
     ] {
@@ -342,124 +356,108 @@ fn an_entry_is_a_file_that_can_be_code(rt: HostRuntime) -> Result<(), Fail> {
 
 #[test]
 fn words_are_canonical_or_a_usage(rt: HostRuntime) -> Result<(), Fail> {
-    let alloc = rt.alloc();
-    let refused = "jam: a\\u005cb.js:1:1: not in the profile\n";
-    for (line, number, err) in [
-        ("graph a\\b.js", 2, refused),
-        ("graph", 6, ""),
-        ("graph -x", 6, ""),
-        ("graph ", 6, ""),
-        ("audit index.js", 6, ""),
-        ("graph index.js more", 6, ""),
-        ("--help", 6, ""),
-    ] {
-        let mut bench = set_up(alloc, "a\\b.js", b"?", 0, 0)?;
-        let words = words_of(alloc, line)?;
-        let status = ran::<HostRuntime, Brand>(
-            &rt,
-            alloc,
-            &mut bench,
-            words.as_slice(),
-            Blank::new(1),
-        );
-        compare(&rt, &bench, &status, number, "", err);
-    }
-    Ok(())
+    rows_hold(&rt, rt.alloc(), RowKind::Words, WORDS)
 }
+
+const WORDS: &str = r#"
+graph a\b.js
+    jam: a\u005cb.js:1:1: not in the profile
+graph --skip-refused none.js
+    jam: no entry
+audit a
+    jam: no lockfile
+audit a --entry=-x --format=json --skip-refused
+    jam: no lockfile
+audit --format text --entry b a
+    jam: no lockfile
+# All others.
+graph
+    help
+graph -x
+    help
+graph 
+    help
+graph index.js more
+    help
+graph --entry a b
+    help
+graph --skip-refused --skip-refused b
+    help
+graph --skip-refused=yes b
+    help
+audit
+    help
+audit a b
+    help
+audit a --entry
+    help
+audit a --entry=
+    help
+audit a --entry -b
+    help
+audit a --entry b --entry=c
+    help
+audit a --format xml
+    help
+audit a --format=json --format json
+    help
+audit a --formats json
+    help
+summary a
+    help
+--help
+    help
+"#;
 
 #[test]
 fn calls_have_edges_to_what_their_names_declare(rt: HostRuntime) -> Result<(), Fail> {
-    let alloc = rt.alloc();
-    for (text, out) in [
-        (
-            "function f() { g(); }\nfunction g() { }\nf();\n",
-            "index.js:1:17 -> index.js:2:1 g\nindex.js:3:2 -> index.js:1:1 f\n",
-        ),
-        (
-            "function f() { }\nfunction f() { }\nf();\n",
-            "index.js:3:2 -> index.js:1:1 f\nindex.js:3:2 -> index.js:2:1 f\n",
-        ),
-        (
-            "function f() { }\nfunction g() {\n  function f() { }\n  f();\n}\nf();\n",
-            "index.js:4:4 -> index.js:3:3 f\nindex.js:6:2 -> index.js:1:1 f\n",
-        ),
-        (
-            "g(); require(); exports(); setTimeout();\nfunction f() { arguments(); }\n",
-            "",
-        ),
-        (
-            "require();\nfunction require() { }\n",
-            "index.js:1:8 -> index.js:2:1 require\n",
-        ),
-        (
-            "require(\"./λ\"); f();\nfunction f() { require(\"./λ\"); f(); }\n",
-            "index.js:1:18 -> index.js:2:1 f\nindex.js:2:33 -> index.js:2:1 f\n",
-        ),
-        (
-            "function f() { f(); }\nfunction g() { h(); }\nfunction h() { g(); }\n",
-            "index.js:1:17 -> index.js:1:1 f\nindex.js:2:17 -> index.js:3:1 h\nindex.js:3:17 -> index.js:2:1 g\n",
-        ),
-    ] {
-        let mut bench = set_up(alloc, "index.js", text.as_bytes(), 0, 99)?;
-        let words = words_of(alloc, "graph index.js")?;
-        let status = ran::<HostRuntime, Brand>(
-            &rt,
-            alloc,
-            &mut bench,
-            words.as_slice(),
-            Blank::new(1),
-        );
-        compare(&rt, &bench, &status, 0, out, "");
-    }
-    Ok(())
+    rows_hold(&rt, rt.alloc(), RowKind::Text, DECLARED)
 }
+
+const DECLARED: &str = r#"
+function f() { g(); }¶function g() { }¶f();¶
+    index.js:1:17 -> index.js:2:1 g
+    index.js:3:2 -> index.js:1:1 f
+function f() { }¶function f() { }¶f();¶
+    index.js:3:2 -> index.js:1:1 f
+    index.js:3:2 -> index.js:2:1 f
+function f() { }¶function g() {¶  function f() { }¶  f();¶}¶f();¶
+    index.js:4:4 -> index.js:3:3 f
+    index.js:6:2 -> index.js:1:1 f
+g(); require(); exports(); setTimeout();¶function f() { arguments(); }¶
+require();¶function require() { }¶
+    index.js:1:8 -> index.js:2:1 require
+require("./λ"); f();¶function f() { require("./λ"); f(); }¶
+    index.js:1:18 -> index.js:2:1 f
+    index.js:2:33 -> index.js:2:1 f
+function f() { f(); }¶function g() { h(); }¶function h() { g(); }¶
+    index.js:1:17 -> index.js:1:1 f
+    index.js:2:17 -> index.js:3:1 h
+    index.js:3:17 -> index.js:2:1 g
+"#;
 
 #[test]
 fn calls_have_edges_to_what_comes_to_their_callee(rt: HostRuntime) -> Result<(), Fail> {
-    let alloc = rt.alloc();
-    for (text, out) in [
-        (
-            "exports.go = function () { };\nexports.go();\n",
-            "index.js:2:11 -> index.js:1:14 go\n",
-        ),
-        (
-            "exports.f = function () { exports.g(); };\nexports.g = function () { };\n",
-            "index.js:1:36 -> index.js:2:13 g\n",
-        ),
-        (
-            "exports.forEach = function () { };\na.forEach();\n",
-            "index.js:2:10 -> index.js:1:19 forEach\n",
-        ),
-        (
-            "function f() { }\nf.call();\nf.apply();\nf.bind();\nf.go();\n",
-            "index.js:2:7 -> index.js:1:1 f\nindex.js:3:8 -> index.js:1:1 f\nindex.js:4:7 -> index.js:1:1 f\n",
-        ),
-        (
-            "var a = require(\"./a\");\na.go();\na();\nrequire(\"../b\");\nvar exports = require(\"./c\");\nexports();\n",
-            "",
-        ),
-        (
-            "function f() { var g = require(\"./g\"); g(); }\nfunction g() { }\ng();\n",
-            "index.js:3:2 -> index.js:2:1 g\n",
-        ),
-        (
-            "function require() { }\nvar a = require(\"./a\");\n",
-            "index.js:2:16 -> index.js:1:1 require\n",
-        ),
-    ] {
-        let mut bench = set_up(alloc, "index.js", text.as_bytes(), 0, 99)?;
-        let words = words_of(alloc, "graph index.js")?;
-        let status = ran::<HostRuntime, Brand>(
-            &rt,
-            alloc,
-            &mut bench,
-            words.as_slice(),
-            Blank::new(1),
-        );
-        compare(&rt, &bench, &status, 0, out, "");
-    }
-    Ok(())
+    rows_hold(&rt, rt.alloc(), RowKind::Text, FLOWING)
 }
+
+const FLOWING: &str = r#"
+exports.go = function () { };¶exports.go();¶
+    index.js:2:11 -> index.js:1:14 go
+exports.f = function () { exports.g(); };¶exports.g = function () { };¶
+    index.js:1:36 -> index.js:2:13 g
+exports.forEach = function () { };¶a.forEach();¶
+    index.js:2:10 -> index.js:1:19 forEach
+function f() { }¶f.call();¶f.apply();¶f.bind();¶f.go();¶
+    index.js:2:7 -> index.js:1:1 f
+    index.js:3:8 -> index.js:1:1 f
+    index.js:4:7 -> index.js:1:1 f
+var a = require("./g");¶a.go();¶a();¶require("../b");¶var exports = require("./c");¶exports();¶
+function f() { var g = require("./g"); g(); }¶function g() { }¶g();¶
+    index.js:3:2 -> index.js:2:1 g
+function require() { }¶var a = require("./a");¶
+    index.js:2:16 -> index.js:1:1 require
+"#;
 
 #[test]
 fn a_fault_ends_the_run_where_it_occurs(rt: HostRuntime) -> Result<(), Fail> {

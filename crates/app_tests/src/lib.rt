@@ -2,6 +2,12 @@
 #![tactic(auto)]
 
 #[cfg(test)]
+mod audit_tests;
+#[cfg(test)]
 mod jam_app_tests;
 #[cfg(test)]
 mod loading_tests;
+#[cfg(test)]
+mod refusal_tests;
+#[cfg(test)]
+mod rows;

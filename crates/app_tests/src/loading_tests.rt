@@ -323,17 +323,11 @@ fn a_fault_of_the_folder_ends_the_loading(rt: HostRuntime) -> Result<(), Fail> {
     let alloc = rt.alloc();
     let edges = "a.js:1:8 -> b.js:1:1 <module>\nb.js:1:8 -> index.js:1:1 <module>\n\
                  index.js:1:8 -> b.js:1:1 <module>\nindex.js:1:27 -> a.js:1:1 <module>\n";
-    for (failing, number, out, err) in [
-        (1, 3, "", "jam: read failed\n"),
-        (2, 3, "", "jam: read failed\n"),
-        (3, 3, "", "jam: read failed\n"),
-        (4, 3, "", "jam: read failed\n"),
-        (5, 3, "", "jam: read failed\n"),
-        (6, 3, "", "jam: read failed\n"),
-        (7, 3, "", "jam: read failed\n"),
-        (8, 3, "", "jam: read failed\n"),
-        (9, 0, edges, ""),
-    ] {
+    for failing in 1..10 {
+        let (number, out, err) = match failing {
+            9 => (0, edges, ""),
+            _ => (3, "", "jam: read failed\n"),
+        };
         let mut bench = files(
             alloc,
             &[

@@ -2,6 +2,8 @@
 #![tactic(auto)]
 
 #[cfg(test)]
+mod alarm_tests;
+#[cfg(test)]
 mod composer_tests;
 #[cfg(test)]
 mod example_reports;

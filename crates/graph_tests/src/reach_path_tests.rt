@@ -196,11 +196,17 @@ fn a_path_goes_over_modules(rt: HostRuntime) -> Result<(), Fail> {
 }
 
 // A function of a module, by their numbers.
-fn at(module: u32, function: u32) -> FunctionRef {
+pub(crate) fn at(module: u32, function: u32) -> FunctionRef {
     FunctionRef { module, function }
 }
 
-fn call(module: u32, function: u32, offset: u32, to_module: u32, to_function: u32) -> Edge {
+pub(crate) fn call(
+    module: u32,
+    function: u32,
+    offset: u32,
+    to_module: u32,
+    to_function: u32,
+) -> Edge {
     Edge {
         caller: at(module, function),
         offset,
@@ -255,7 +261,12 @@ fn counts(
 }
 
 // What `reach` answers, where its conditions hold.
-fn reach_of(alloc: Global, functions: &[u32], edges: &[Edge], entry: u32) -> Result<Reach, Fail> {
+pub(crate) fn reach_of(
+    alloc: Global,
+    functions: &[u32],
+    edges: &[Edge],
+    entry: u32,
+) -> Result<Reach, Fail> {
     if !ascend(edges) {
         return Err("the edges aren't in order".into());
     }

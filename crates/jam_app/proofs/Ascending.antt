@@ -1,5 +1,5 @@
 -- What ascends by numbers: requires, what they lead to, and links.
-use Rattle.std.proofs.Common.{◌≡◌, ℕ, ◌+◌, ◌<◌, inl, inr, List, [], ◌∷◌, ◌++◌, length, take, get_or, refl, ap, sym, subst, ◌∙◌, arith, Option, Some, None}
+use Rattle.std.proofs.Common.{◌≡◌, ℕ, ◌+◌, ◌<◌, ◌⊎◌, inl, inr, List, [], ◌∷◌, ◌++◌, length, take, get_or, refl, ap, sym, subst, ◌∙◌, arith, Option, Some, None}
 use Rattle.std.specs.Prelude.{All, Contains, slice_get, IfSome}
 use Rattle.std.specs.List.{AllByRecursion}
 use Rattle.std.specs.Option.{option_to_list}
@@ -15,7 +15,7 @@ use Rattle.flow_rules.specs.Constraints.{ModuleConstraints}
 use Rattle.flow_rules.specs.Flows.{require_order}
 use Rattle.flow_rules.specs.declared.module.Require.{Require}
 use Rattle.composer.specs.declared.application.Link.{Link}
-use Rattle.composer.specs.Parts.{IsNamed, link_order}
+use Rattle.composer.specs.Parts.{AreLinks, IsNamed, link_order}
 use Rattle.jam_app.specs.declared.loading.loaded.Led.{Led}
 use Rattle.jam_app.specs.Links.{AreUpTo, IsUpTo, MayAdd}
 use Rattle.jam_app.specs.Links.MayAdd.{none, one}

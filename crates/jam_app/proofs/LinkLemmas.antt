@@ -9,12 +9,13 @@ use Rattle.std.specs.Option.{option_map}
 use Rattle.std.specs.declared.cmp.Ordering.{Ordering}
 use Rattle.std.specs.declared.cmp.Ordering.TheVariants.{Less, Equal, Greater}
 use Rattle.std.proofs.lemmas.Cmp.{tied_itself}
-use Rattle.std.proofs.lemmas.Option.{slice_get-map, slice_get_within, slice_get_cases, get_or_from_slice_get, same_Some, none-some}
+use Rattle.std.proofs.lemmas.Option.{slice_get-map, slice_get_read, slice_get_within, slice_get_cases, get_or_from_slice_get, same_Some, none-some}
 use Rattle.std.proofs.lemmas.List.{take_more, length-map, get_or-map}
 use Rattle.std.proofs.lemmas.List.Elements.{Contains-append_cases, Contains-append_left, Contains-append_right}
 use Rattle.std.proofs.lemmas.List.Sorted.{searchable_from_sorted}
 use Rattle.std.proofs.lemmas.Map.Keys.{Less-from_sorted}
 use Rattle.std.proofs.lemmas.Map.Lookups.{exact_bytes}
+use Rattle.composer.proofs.Members.{from_map}
 use Rattle.composer.specs.declared.application.Link.{Link}
 use Rattle.jam_app.specs.declared.loading.loaded.Led.{Led}
 use Rattle.jam_app.specs.declared.loading.loaded.Loaded.{Loaded}
@@ -183,3 +184,10 @@ below_more loaded m one xs ys zs at a b =
       | inl lt ↦ inl (record { below = lt; from = l.from; here = l.here; links = l.links })
       | inr e ↦ inr (last x l e)
     ]
+
+-- a path that a module has stands somewhere
+pub stands_somewhere : (loaded : List Loaded) (path : List ℕ) → Contains (paths loaded) path → (place : ℕ) × StandsAt loaded place path
+stands_somewhere loaded path h =
+    let l = from_map (λ (x : Loaded). x.path) loaded path h in
+    let at = l.1 in
+    (at.0, record { one = l.0; here = slice_get_read loaded (length loaded) at.0 l.0 refl at.1 (sym at.2); path_is = l.2 })

@@ -1,7 +1,7 @@
 -- How many modules there are, and how many bytes they have.
-use Rattle.std.proofs.Common.{◌≡◌, ℕ, ◌+◌, ◌<◌, ◌≤◌, true, false, List, [], ◌∷◌, ◌++◌, length, nat_lt, ap, sym, subst, ◌∙◌, arith, add_assoc, add-zero, zero-add, length-append, append_assoc, cond, map, Option}
+use Rattle.std.proofs.Common.{◌≡◌, ℕ, ◌+◌, ◌<◌, ◌≤◌, true, false, List, [], ◌∷◌, ◌++◌, length, nat_lt, ap, sym, subst, ◌∙◌, arith, add_assoc, add-zero, zero-add, length-append, append_assoc, cond, map, Option, None}
 use Rattle.std.specs.Option.{IfSome}
-use Rattle.std.proofs.lemmas.List.{map-append}
+use Rattle.std.proofs.lemmas.List.{append-nil, map-append}
 use Rattle.std.proofs.lemmas.Bool.Decides.{nat_tests}
 use Rattle.jam_base.specs.Files.{Files}
 use Rattle.jam_app.specs.declared.answers.refusal.Refusal.{Refusal}

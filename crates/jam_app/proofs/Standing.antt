@@ -1,5 +1,5 @@
 -- How far loading has come, from round to round.
-use Rattle.std.proofs.Common.{◌≡◌, ℕ, List, [], ◌∷◌, ◌++◌, map, refl, ap, sym, subst, ◌∙◌, Option}
+use Rattle.std.proofs.Common.{◌≡◌, ℕ, List, [], ◌∷◌, ◌++◌, map, refl, ap, sym, subst, ◌∙◌, Bool, false, Option}
 use Rattle.std.specs.Prelude.{◌↔◌, All, Contains, IsSome}
 use Rattle.std.specs.List.{flat_map}
 use Rattle.std.proofs.lemmas.List.Elements.{All-contains, All-cons, All-head, All-map, All-nil, All-tail}
@@ -13,10 +13,12 @@ use Rattle.js_tree.specs.Spells.{Spells}
 use Rattle.jam_app.specs.declared.loading.loaded.Led.{Led}
 use Rattle.jam_app.specs.declared.loading.loaded.Loaded.{Loaded}
 use Rattle.jam_app.specs.declared.loading.source.Source.{Source}
-use Rattle.jam_app.specs.Reading.{IsRead, file_at, file_of, led_from, source_of}
-use Rattle.jam_app.specs.Rounds.{Ascend, IsNextRound, IsRequiredAmong, IsTreeOf, NoneBad, bad, text_at, spelled}
+use Rattle.jam_app.specs.Loading.{IsKept}
+use Rattle.jam_app.specs.Reading.{file_at, file_of, led_from, source_of}
+use Rattle.jam_app.specs.Rounds.{Ascend, IsNextRound, IsRequiredAmong, IsTreeOf, NoneBad, text_at}
 use Rattle.jam_app.specs.Texts.{IsBad}
 use Rattle.jam_app.proofs.Keeping.{path_of}
+use Rattle.jam_app.proofs.TreeLemmas.{not_bad, one_tree, tree_is}
 
 -- the modules of a round, in order: each is the one of the file at its path
 pub record AreOf (m : Files) (modules : List Loaded) (round : List (List ℕ)) : Type 0 where
@@ -55,30 +57,25 @@ are_of m modules sources round are files =
         (All-head (λ (s : Source). s.text ≡ text_at m s.path) (source_of l) (map source_of ls) h)
         (from_map_all ls (All-tail (λ (s : Source). s.text ≡ text_at m s.path) (source_of l) (map source_of ls) h))
 
--- a tree of the file is the one that was found
-one_tree : (m : Files) (l : Loaded) (tree : Tree) → IsRead m l → IsTreeOf l.text tree → tree ≡ l.tree
-one_tree m l tree read (spelled s) = read.only.only tree s
-one_tree m l tree read (bad none e) = absurd (none l.tree read.kept.only.spelled)
-
-module _ (m : Files) (modules : List Loaded) (round paths : List (List ℕ)) (of : AreOf m modules round) (read : All (IsRead m) modules) (paths_are : paths ≡ flat_map led_from modules) where
+module _ (m : Files) (skip : Bool) (modules : List Loaded) (round paths : List (List ℕ)) (of : AreOf m modules round) (read : All (IsKept skip m) modules) (paths_are : paths ≡ flat_map led_from modules) where
   text_here : (l : Loaded) → Contains modules l → l.text ≡ text_at m l.path
   text_here l h = All-contains (λ (l : Loaded). l.text ≡ text_at m l.path) modules l of.texts h
 
-  read_here : (l : Loaded) → Contains modules l → IsRead m l
-  read_here l h = All-contains (IsRead m) modules l read h
+  read_here : (l : Loaded) → Contains modules l → IsKept skip m l
+  read_here l h = All-contains (IsKept skip m) modules l read h
 
   in_round : (l : Loaded) → Contains modules l → Contains round l.path
   in_round l h = subst (λ (ps : List (List ℕ)). Contains ps l.path) of.paths (into_map path_of modules l h)
 
-  -- no module of the round is bad
-  pub round_none_bad : NoneBad m round
-  round_none_bad = subst (NoneBad m) of.paths (All-map (λ (p : List ℕ). IsBad (text_at m p) → ⊥) path_of modules (both modules of.texts read))
+  -- no module of the round is bad, where such modules aren't skipped
+  pub round_none_bad : skip ≡ false → NoneBad m round
+  round_none_bad unskipped = subst (NoneBad m) of.paths (All-map (λ (p : List ℕ). IsBad (text_at m p) → ⊥) path_of modules (both modules of.texts read))
     where
-      both : (ls : List Loaded) → All (λ (l : Loaded). l.text ≡ text_at m l.path) ls → All (IsRead m) ls → All (λ (l : Loaded). IsBad (text_at m l.path) → ⊥) ls
+      both : (ls : List Loaded) → All (λ (l : Loaded). l.text ≡ text_at m l.path) ls → All (IsKept skip m) ls → All (λ (l : Loaded). IsBad (text_at m l.path) → ⊥) ls
       both [] b r = All-nil (λ (l : Loaded). IsBad (text_at m l.path) → ⊥)
       both (l ∷ ls) b r = All-cons (λ (l : Loaded). IsBad (text_at m l.path) → ⊥) l ls
-          (λ h. h l.tree (subst (λ (text : List ℕ). Spells text l.tree) (All-head (λ (l : Loaded). l.text ≡ text_at m l.path) l ls b) (All-head (IsRead m) l ls r).kept.only.spelled))
-          (both ls (All-tail (λ (l : Loaded). l.text ≡ text_at m l.path) l ls b) (All-tail (IsRead m) l ls r))
+          (λ h. not_bad skip l.text l.tree l.skipped (All-head (IsKept skip m) l ls r).tree unskipped (subst IsBad (sym (All-head (λ (l : Loaded). l.text ≡ text_at m l.path) l ls b)) h))
+          (both ls (All-tail (λ (l : Loaded). l.text ≡ text_at m l.path) l ls b) (All-tail (IsKept skip m) l ls r))
 
   -- where a require leads is required
   leads_required : (path : List ℕ) → Contains paths path → IsRequiredAmong m round path
@@ -86,12 +83,12 @@ module _ (m : Files) (modules : List Loaded) (round paths : List (List ℕ)) (of
       let found = from_flat_map led_from modules path (subst (λ (ps : List (List ℕ)). Contains ps path) paths_are h) in
       let l = found.0 in
       let led = from_map (λ (t : Led). t.path) l.targets.items path found.2 in
-      let leads = ((read_here l found.1).kept.targets led.0).0 led.1 in (
+      let leads = ((read_here l found.1).targets led.0).0 led.1 in (
         l.path,
         in_round l found.1,
         record {
           tree = l.tree;
-          tree_is = subst (λ (text : List ℕ). IsTreeOf text l.tree) (text_here l found.1) (spelled (read_here l found.1).kept.only.spelled);
+          tree_is = subst (λ (text : List ℕ). IsTreeOf text l.tree) (text_here l found.1) (tree_is skip l.text l.tree l.skipped (read_here l found.1).tree);
           require = leads.require;
           here = leads.here;
           target_is = leads.target_is ∙ ap (λ (p : List ℕ). target.Module p) led.2;
@@ -103,10 +100,10 @@ module _ (m : Files) (modules : List Loaded) (round paths : List (List ℕ)) (of
   required_leads path (from, from_here, required) =
       let found = from_map path_of modules from (subst (λ (ps : List (List ℕ)). Contains ps from) (sym of.paths) from_here) in
       let l = found.0 in
-      let tree_is : IsTreeOf l.text required.tree = subst (λ (text : List ℕ). IsTreeOf text required.tree) (ap (text_at m) (sym found.2) ∙ sym (text_here l found.1)) required.tree_is in
-      let same = one_tree m l required.tree (read_here l found.1) tree_is in
+      let is_tree : IsTreeOf l.text required.tree = subst (λ (text : List ℕ). IsTreeOf text required.tree) (ap (text_at m) (sym found.2) ∙ sym (text_here l found.1)) required.tree_is in
+      let same = one_tree skip l.text l.tree l.skipped required.tree (read_here l found.1).tree is_tree in
       let led : Led = record { offset = required.require.offset; path = path } in
-      let in_targets : Contains l.targets.items led = ((read_here l found.1).kept.targets led).1 (record {
+      let in_targets : Contains l.targets.items led = ((read_here l found.1).targets led).1 (record {
         require = required.require;
         here = subst (λ (t : Tree). Contains (requires_of t) required.require) same required.here;
         offset = refl;

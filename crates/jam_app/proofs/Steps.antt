@@ -13,10 +13,12 @@ use Rattle.jam_app.specs.declared.loading.rounds.Progress.{Progress}
 use Rattle.jam_app.specs.declared.loading.size.Size.{Size}
 use Rattle.jam_app.specs.declared.loading.source.Source.{Source}
 use Rattle.jam_app.specs.Reading as reading
-use Rattle.jam_app.specs.Reading.{HasBad, HasExcess, IsRead, IsRefusedFor, file_at, file_of, led_from, size_of, source_of}
-use Rattle.jam_app.specs.BetweenRounds.{Stands, found_at}
+use Rattle.jam_app.specs.Reading.{HasBad, HasExcess, IsRefusedFor, file_at, file_of, led_from, size_of, source_of}
+use Rattle.jam_app.specs.BetweenRounds.{IsHeld, Stands, found_at}
 use Rattle.jam_app.specs.Refusals.{IsFirstBad, IsLoadRefusal, construct, not_in_profile, too_large, too_many}
 use Rattle.jam_app.specs.Rounds.{Ascend, Fits, IsRound, NoneBad, text_at, total_bytes}
+use Rattle.jam_app.specs.Entries.{Start}
+use Rattle.jam_app.specs.Loading.{IsKept}
 use Rattle.jam_app.specs.Texts.{IsBad}
 use Rattle.jam_app.proofs.Keeping.{Kept}
 use Rattle.jam_app.proofs.Standing.{are_of, next_round, round_none_bad, whole_files}
@@ -29,12 +31,12 @@ size_fits m size paths is few room =
     record { modules = omega arith; bytes = omega arith }
 
 -- the next round stands
-pub stands_next : (m : Files) (operand : List ℕ) (old new : Progress) (sources : List Source) (modules : List Loaded) (round paths next : List (List ℕ)) → Stands operand m old round
-    → map file_of sources ≡ map (file_at m) round → map source_of modules ≡ sources → All (IsRead m) modules
+pub stands_next : (m : Files) (start : Start) (old new : Progress) (sources : List Source) (modules : List Loaded) (round paths next : List (List ℕ)) → Stands start m old round
+    → map file_of sources ≡ map (file_at m) round → map source_of modules ≡ sources → All (IsKept start.skip m) modules
     → ((earlier : List (List ℕ)) → old.size ≡ size_of m earlier → new.size ≡ size_of m (earlier ++ round))
     → Kept (found_at old.modules) (found_at new.modules) modules → paths ≡ flat_map led_from modules → Ascend next
-    → ((path : List ℕ) → Contains next path ↔ (Contains paths path × (IsSome (found_at new.modules path) → ⊥))) → Stands operand m new next
-stands_next m operand old new sources modules round paths next stands files are read sizes kept paths_are sorted here =
+    → ((path : List ℕ) → Contains next path ↔ (Contains paths path × (IsSome (found_at new.modules path) → ⊥))) → Stands start m new next
+stands_next m start old new sources modules round paths next stands files are read sizes kept paths_are sorted here =
     let of = are_of m modules sources round are files in
     let loaded : (path : List ℕ) → IsSome (found_at new.modules path) ↔ Contains (stands.before ++ round) path = λ path. (
       λ h. ⊎_elim (λ g. Contains-append_left stands.before round path ((stands.here path).0 g))
@@ -46,23 +48,23 @@ stands_next m operand old new sources modules round paths next stands files are 
       found = stands.found;
       number = suc stands.number;
       before = stands.before ++ round;
-      is_round = (stands.before, round, stands.is_round, refl, next_round m modules round paths of read paths_are stands.before next (found_at new.modules) loaded sorted here);
-      none_bad = All-append (λ path. IsBad (text_at m path) → ⊥) stands.before round stands.none_bad (round_none_bad m modules round paths of read paths_are);
+      is_round = (stands.before, round, stands.is_round, refl, next_round m start.skip modules round paths of read paths_are stands.before next (found_at new.modules) loaded sorted here);
+      none_bad = λ unskipped. All-append (λ path. IsBad (text_at m path) → ⊥) stands.before round (stands.none_bad unskipped) (round_none_bad m start.skip modules round paths of read paths_are unskipped);
       size = sizes stands.before stands.size;
       here = loaded;
       held = λ path l is. ⊎_elim (λ g. stands.held path l g) (λ g. record {
         at = g.0;
         text = All-contains (λ (l : Loaded). l.text ≡ text_at m l.path) modules l of.texts g.1;
-        kept = (All-contains (IsRead m) modules l read g.1).kept;
+        kept = All-contains (IsKept start.skip m) modules l read g.1;
       }) (kept.which path l is);
     }
 
 -- the first module that is one too many is refused
-pub refuses_excess : (m : Files) (operand : List ℕ) (old : Progress) (round : List (List ℕ)) (owed : Refusal) → Stands operand m old round
-    → ((earlier : List (List ℕ)) → old.size ≡ size_of m earlier → HasExcess m earlier round owed) → IsLoadRefusal operand m owed
-refuses_excess m operand old round owed stands has =
+pub refuses_excess : (m : Files) (start : Start) (old : Progress) (round : List (List ℕ)) (owed : Refusal) → Stands start m old round
+    → ((earlier : List (List ℕ)) → old.size ≡ size_of m earlier → HasExcess m earlier round owed) → IsLoadRefusal start m owed
+refuses_excess m start old round owed stands has =
     let h = has stands.before stands.size in
-    subst (IsLoadRefusal operand m) (sym h.excess.is) (too_many (stands.before ++ h.front) h.path (record {
+    subst (IsLoadRefusal start m) (sym h.excess.is) (too_many (stands.before ++ h.front) h.path (record {
       before = stands.before;
       front = h.front;
       behind = h.behind;
@@ -80,16 +82,16 @@ is_bad path text owed (reading.too_large over) = large_bad text over
 is_bad path text owed (reading.construct at what none within refused) = none
 is_bad path text owed (reading.not_in_profile at none within refused) = none
 
-refuses_for : (m : Files) (operand path : List ℕ) (owed : Refusal) → IsFirstBad operand m path → IsRefusedFor path (text_at m path) owed → IsLoadRefusal operand m owed
-refuses_for m operand path owed first (reading.too_large over) = too_large path first over
-refuses_for m operand path owed first (reading.construct at what none within refused) = construct path at what first within refused
-refuses_for m operand path owed first (reading.not_in_profile at none within refused) = not_in_profile path at first within refused
+refuses_for : (m : Files) (start : Start) (path : List ℕ) (owed : Refusal) → IsFirstBad start m path → IsRefusedFor path (text_at m path) owed → IsLoadRefusal start m owed
+refuses_for m start path owed first (reading.too_large over) = too_large path first over
+refuses_for m start path owed first (reading.construct at what none within refused) = construct path at what first within refused
+refuses_for m start path owed first (reading.not_in_profile at none within refused) = not_in_profile path at first within refused
 
 -- the first bad module of a round is refused
-pub refuses_bad : (m : Files) (operand : List ℕ) (old : Progress) (new : Size) (sources : List Source) (round : List (List ℕ)) (owed : Refusal) → Stands operand m old round
+pub refuses_bad : (m : Files) (start : Start) (old : Progress) (new : Size) (sources : List Source) (round : List (List ℕ)) (owed : Refusal) → Stands start m old round
     → map file_of sources ≡ map (file_at m) round → ((earlier : List (List ℕ)) → old.size ≡ size_of m earlier → new ≡ size_of m (earlier ++ round)) → new.modules ≤ 16384 → new.bytes ≤ 67108864
-    → HasBad sources owed → IsLoadRefusal operand m owed
-refuses_bad m operand old new sources round owed stands files sizes few room has =
+    → HasBad start.skip sources owed → IsLoadRefusal start m owed
+refuses_bad m start old new sources round owed stands files sizes few room has =
     let whole = whole_files m sources round files in
     let source = has.source in
     let front : List (List ℕ) = map (λ (s : Source). s.path) has.front in
@@ -99,7 +101,8 @@ refuses_bad m operand old new sources round owed stands files sizes few room has
     let here_text : source.text ≡ text_at m source.path = All-contains (λ (s : Source). s.text ≡ text_at m s.path) (has.front ++ source ∷ has.behind) source texts (Contains-append_right has.front (source ∷ has.behind) source (here source has.behind)) in
     let refused : IsRefusedFor source.path (text_at m source.path) owed = subst (λ text. IsRefusedFor source.path text owed) here_text has.refused in
     let all : stands.before ++ round ≡ stands.before ++ front ++ source.path ∷ behind = ap (λ r. stands.before ++ r) parts ∙ sym (append_assoc stands.before front (source.path ∷ behind)) in
-    refuses_for m operand source.path owed (record {
+    refuses_for m start source.path owed (record {
+      unskipped = has.unskipped;
       before = stands.before;
       front = front;
       behind = behind;

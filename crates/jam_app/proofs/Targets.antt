@@ -2,7 +2,7 @@
 use Rattle.std.proofs.Common.{◌≡◌, ℕ, ◌+◌, ◌<◌, List, [], ◌∷◌, ◌++◌, length, get_or, take, refl, ap, sym, subst, ◌∙◌, inl, inr, Option, Some, None}
 use Rattle.std.specs.Prelude.{Contains}
 use Rattle.std.specs.List.{cons_option, filter_map}
-use Rattle.std.specs.Option.{option_to_list}
+use Rattle.std.specs.Option.{IfSome, option_to_list}
 use Rattle.std.proofs.lemmas.List.{take_more, append-nil}
 use Rattle.std.proofs.lemmas.List.Elements.{filter_map-append}
 use Rattle.std.proofs.lemmas.Option.{none-some, same_Some}
@@ -17,9 +17,8 @@ use Rattle.composer.proofs.Members.{none, here, there, cons_cases}
 use Rattle.jam_app.specs.declared.loading.loaded.Led.{Led}
 use Rattle.jam_app.specs.declared.loading.loaded.Loaded.{Loaded}
 use Rattle.jam_app.specs.Entries.{module_path}
-use Rattle.jam_app.specs.Loading.{IsSummaryOf, Leads}
-use Rattle.jam_app.specs.Reading.{IsRead, led_by, led_to}
-use Rattle.jam_app.specs.Texts.{IsOnlyTree}
+use Rattle.jam_app.specs.Loading.{IsSummaryOf, Leads, missing_by}
+use Rattle.jam_app.specs.Reading.{IsResolved, led_by, led_to}
 
 cons_is : {X : Type 0} (o : Option X) (xs : List X) → cons_option o xs ≡ option_to_list o ++ xs
 cons_is None xs = refl
@@ -32,7 +31,7 @@ filter_map_more f xs i x within is =
     ∙ ap (λ y. filter_map f (take i xs) ++ filter_map f (y ∷ [])) (sym is)
     ∙ ap (λ ys. filter_map f (take i xs) ++ ys) (cons_is (f x) [] ∙ append-nil (option_to_list (f x)))
 
-pub led_more : (f : Require → Option Led) (xs : List Require) (i : ℕ) (x : Require) (old new : List Led) (led : Option Led) → new ≡ old ++ option_to_list led → old ≡ filter_map f (take i xs) → led ≡ f x
+pub led_more : {Y : Type 0} (f : Require → Option Y) (xs : List Require) (i : ℕ) (x : Require) (old new : List Y) (led : Option Y) → new ≡ old ++ option_to_list led → old ≡ filter_map f (take i xs) → led ≡ f x
     → i < length xs → x ≡ get_or xs i x → new ≡ filter_map f (take (i + 1) xs)
 led_more f xs i x old new led pushed were is within item = pushed ∙ (λ k. were k ++ option_to_list (is k)) ∙ sym (filter_map_more f xs i x within item)
 
@@ -56,6 +55,11 @@ pub from_filter_map : {X Y : Type 0} (f : X → Option Y) (xs : List X) (y : Y) 
 from_filter_map f [] y h = absurd (none y h)
 from_filter_map f (z ∷ xs) y h = in_first f z xs y (f z) refl (from_filter_map f xs y) h
 
+-- what leads somewhere has its require's offset
+pub led_offset : (offset : ℕ) (path : Option (List ℕ)) → IfSome (led_to offset path) (λ l. l.offset ≡ offset)
+led_offset offset None = tt
+led_offset offset (Some path) = refl
+
 from_led : (offset : ℕ) (t : Target) (led : Led) → led_to offset (module_path t) ≡ Some led → (offset ≡ led.offset) × (t ≡ target.Module led.path)
 from_led offset (target.Module path) led e = let is = same_Some _ _ e in (ap (λ (l : Led). l.offset) is, ap (λ (l : Led). target.Module l.path) is)
 from_led offset (target.NotCode path) led e = absurd (none-some led e)
@@ -65,22 +69,20 @@ from_led offset target.Missing led e = absurd (none-some led e)
 into_led : (offset : ℕ) (t : Target) (led : Led) → offset ≡ led.offset → t ≡ target.Module led.path → led_to offset (module_path t) ≡ Some led
 into_led offset t led o is = ap (λ t. led_to offset (module_path t)) is ∙ (λ i. Some (record { offset = o i; path = led.path }))
 
--- what is kept of a module is all right
-pub is_read : (m : Files) (l : Loaded) → IsOnlyTree l.text l.tree → IsSummaryOf l.tree l.summary → l.targets.items ≡ filter_map (led_by m l.path) l.summary.lists.requires_ → IsRead m l
-is_read m l only summary targets =
+-- what is kept of a module beside its tree is all right
+pub is_resolved : (m : Files) (l : Loaded) → IsSummaryOf l.tree l.summary → l.targets.items ≡ filter_map (led_by m l.path) l.summary.lists.requires_
+    → l.missing.items ≡ filter_map (missing_by m l.path) l.summary.lists.requires_ → IsResolved m l
+is_resolved m l summary targets missing =
     let f = led_by m l.path in
     let requires_ : l.summary.lists.requires_ ≡ requires_of l.tree = ap (λ (c : ModuleConstraints). c.requires_) summary.whole in
     let all : l.targets.items ≡ filter_map f (requires_of l.tree) = targets ∙ ap (filter_map f) requires_ in
     record {
-      only = only;
-      kept = record {
-        only = only;
-        summary = summary;
-        targets = λ led. (
-          λ h. leads led (from_filter_map f (requires_of l.tree) led (subst (λ ts. Contains ts led) all h)),
-          λ leads. subst (λ ts. Contains ts led) (sym all) (into_filter_map f (requires_of l.tree) leads.require led leads.here (into_led leads.require.offset (target_of m l.path leads.require.spec) led leads.offset leads.target_is)),
-        );
-      };
+      summary = summary;
+      targets = λ led. (
+        λ h. leads led (from_filter_map f (requires_of l.tree) led (subst (λ ts. Contains ts led) all h)),
+        λ leads. subst (λ ts. Contains ts led) (sym all) (into_filter_map f (requires_of l.tree) leads.require led leads.here (into_led leads.require.offset (target_of m l.path leads.require.spec) led leads.offset leads.target_is)),
+      );
+      missing = missing ∙ ap (filter_map (missing_by m l.path)) requires_;
     }
   where
     leads : (led : Led) → (require : Require) × Contains (requires_of l.tree) require × (led_by m l.path require ≡ Some led) → Leads m l led

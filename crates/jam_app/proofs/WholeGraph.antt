@@ -1,5 +1,5 @@
 -- The graph that loaded modules give is the one that is owed.
-use Rattle.std.proofs.Common.{◌≡◌, ℕ, suc, inl, inr, List, [], ◌∷◌, map, length, Option, Some, None, refl, sym, ap, subst, ◌∙◌, arith}
+use Rattle.std.proofs.Common.{◌≡◌, ℕ, suc, inl, inr, List, [], ◌∷◌, map, length, Option, Some, None, refl, sym, ap, subst, ◌∙◌, arith, Bool}
 use Rattle.std.specs.Prelude.{All, Contains, slice_get, unwrap_or}
 use Rattle.std.specs.Option.{option_map}
 use Rattle.std.proofs.lemmas.Option.{slice_get-map, slice_get_within, get_or_from_slice_get, same_Some, none-some}
@@ -9,7 +9,7 @@ use Rattle.jam_base.specs.declared.edge.FunctionRef.{FunctionRef}
 use Rattle.js_scopes.specs.declared.function.FunctionInfo.{FunctionInfo}
 use Rattle.js_scopes.specs.Scopes.{functions_of}
 use Rattle.flow_rules.specs.Constraints.{ModuleConstraints}
-use Rattle.flow_rules.specs.Flows.{requires_of}
+use Rattle.flow_rules.specs.Flows.{constraints_of, requires_of}
 use Rattle.node_resolve.specs.declared.target.Target.TheVariants.{Module}
 use Rattle.node_resolve.specs.Targets.{target_of}
 use Rattle.composer.specs.declared.application.Link.{Link}
@@ -19,7 +19,8 @@ use Rattle.report_text.specs.declared.shown.Shown.{Shown}
 use Rattle.report_text.specs.Graph.{graph_text_of}
 use Rattle.jam_app.specs.declared.loading.loaded.Led.{Led}
 use Rattle.jam_app.specs.declared.loading.loaded.Loaded.{Loaded}
-use Rattle.jam_app.specs.Graphs.{IsGraphText, constraints_all, nowhere, shown_call, shown_edge, shown_function, shown_in, shown_number}
+use Rattle.jam_app.specs.Entries.{Start}
+use Rattle.jam_app.specs.Graphs.{IsGraph, IsGraphText, constraints_all, nowhere, shown_call, shown_edge, shown_function, shown_in, shown_number}
 use Rattle.jam_app.specs.Loading.{IsKept, IsWhole, Leads, module_of}
 use Rattle.jam_app.specs.Links.{Adds, LinksBelow}
 use Rattle.jam_app.specs.Printing.{PrintedModule, call_in, edge_among, function_among, printed_of}
@@ -38,7 +39,7 @@ function_shown : (f : ℕ) (o : Option LoadedModule)
 function_shown f None = refl
 function_shown f (Some m) = in_module f m
 
-function_same : (modules : List LoadedModule) (f : FunctionRef) → function_among (map printed_of modules) f ≡ shown_function modules f
+pub function_same : (modules : List LoadedModule) (f : FunctionRef) → function_among (map printed_of modules) f ≡ shown_function modules f
 function_same modules f =
     ap (λ o. elim o [ None ↦ nowhere | Some m ↦ unwrap_or (slice_get m.functions f.function) nowhere ]) (slice_get-map printed_of modules f.module)
     ∙ function_shown f.function (slice_get modules f.module)
@@ -55,35 +56,35 @@ edge_same modules edge =
     ∙ ap (λ o. elim o [ None ↦ record { path = []; line = 1; column = 1; callee = shown_function modules edge.callee } | Some m ↦ call_in edge.offset (shown_function modules edge.callee) m ]) (slice_get-map printed_of modules edge.caller.module)
     ∙ edge_shown edge.offset (shown_function modules edge.callee) (slice_get modules edge.caller.module)
 
-edges_same : (modules : List LoadedModule) (edges : List Edge) → map (edge_among (map printed_of modules)) edges ≡ map (shown_edge modules) edges
+pub edges_same : (modules : List LoadedModule) (edges : List Edge) → map (edge_among (map printed_of modules)) edges ≡ map (shown_edge modules) edges
 edges_same modules [] = refl
 edges_same modules (e ∷ es) = λ i. edge_same modules e i ∷ edges_same modules es i
 
-kept_at : (files : Files) (loaded : List Loaded) (k : ℕ) (l : Loaded) → All (IsKept files) loaded → slice_get loaded k ≡ Some l → IsKept files l
-kept_at files loaded k l all here = subst (IsKept files) (get_or_from_slice_get loaded k l l here) (all k l (slice_get_within loaded k l here))
+pub kept_at : (skip : Bool) (files : Files) (loaded : List Loaded) (k : ℕ) (l : Loaded) → All (IsKept skip files) loaded → slice_get loaded k ≡ Some l → IsKept skip files l
+kept_at skip files loaded k l all here = subst (IsKept skip files) (get_or_from_slice_get loaded k l l here) (all k l (slice_get_within loaded k l here))
 
 -- the constraints that are kept are those of the trees
-pub constraints_same : (files : Files) (loaded : List Loaded) → All (IsKept files) loaded → map (λ (l : Loaded). l.summary.lists) loaded ≡ constraints_all (map module_of loaded)
-constraints_same files [] all = refl
-constraints_same files (l ∷ ls) all =
-    let first : IsKept files l = all 0 l (omega arith) in
-    λ i. first.summary.whole i ∷ constraints_same files ls (λ k d lt. all (suc k) d (omega (arith, lt))) i
+pub constraints_same : (skip : Bool) (files : Files) (loaded : List Loaded) → All (IsKept skip files) loaded → map (λ (l : Loaded). l.summary.lists) loaded ≡ constraints_all (map module_of loaded)
+constraints_same skip files [] all = refl
+constraints_same skip files (l ∷ ls) all =
+    let first : IsKept skip files l = all 0 l (omega arith) in
+    λ i. first.summary.whole i ∷ constraints_same skip files ls (λ k d lt. all (suc k) d (omega (arith, lt))) i
 
 -- a loaded module behind one that is seen
-loaded_at : (loaded : List Loaded) (k : ℕ) (m : LoadedModule) → slice_get (map module_of loaded) k ≡ Some m → (l : Loaded) × (slice_get loaded k ≡ Some l) × (module_of l ≡ m)
+pub loaded_at : (loaded : List Loaded) (k : ℕ) (m : LoadedModule) → slice_get (map module_of loaded) k ≡ Some m → (l : Loaded) × (slice_get loaded k ≡ Some l) × (module_of l ≡ m)
 loaded_at loaded k m e = by (slice_get loaded k) refl
   where
     by : (o : Option Loaded) → slice_get loaded k ≡ o → (l : Loaded) × (slice_get loaded k ≡ Some l) × (module_of l ≡ m)
     by None is = absurd (none-some m (ap (option_map module_of) (sym is) ∙ sym (slice_get-map module_of loaded k) ∙ e))
     by (Some l) is = (l, is, same_Some (module_of l) m (ap (option_map module_of) (sym is) ∙ sym (slice_get-map module_of loaded k) ∙ e))
 
-module _ (files : Files) (loaded : List Loaded) (kept : All (IsKept files) loaded) where
+module _ (skip : Bool) (files : Files) (loaded : List Loaded) (kept : All (IsKept skip files) loaded) where
   -- what links among loaded modules are
   link_of : (link : Link) → LinksBelow loaded (length loaded) link → IsLink files (map module_of loaded) link
   link_of link below =
       let among = below.links in
       let to = among.links.to in
-      let leads = ((kept_at files loaded link.module below.from kept below.here).targets among.led).0 among.here in
+      let leads = ((kept_at skip files loaded link.module below.from kept below.here).targets among.led).0 among.here in
       record {
         from = module_of below.from;
         to = module_of to.one;
@@ -112,7 +113,7 @@ module _ (files : Files) (loaded : List Loaded) (kept : All (IsKept files) loade
         here = from.1;
         links = record {
           led = led;
-          here = ((kept_at files loaded link.module from.0 kept from.1).targets led).1 leads;
+          here = ((kept_at skip files loaded link.module from.0 kept from.1).targets led).1 leads;
           links = record { from = refl; offset = refl; to = record { one = to.0; here = to.1; path_is = ap (λ (m : LoadedModule). m.path) to.2 } };
         };
       }
@@ -123,18 +124,27 @@ module _ (files : Files) (loaded : List Loaded) (kept : All (IsKept files) loade
     λ l. adds.all link (below_of link l),
   )
 
-pub graph_owed : (operand : List ℕ) (files : Files) (loaded : List Loaded) (links : List Link) (printed : List PrintedModule) (constraints : List ModuleConstraints) (edges : List Edge) (steps : List PathStep) (text : List ℕ)
-    → Adds (LinksBelow loaded (length loaded)) [] links → printed ≡ map printed_of (map module_of loaded) → constraints ≡ map (λ (l : Loaded). l.summary.lists) loaded
-    → IsEdgeList constraints links edges → steps ≡ map (edge_among printed) edges → text ≡ graph_text_of steps
-    → IsWhole operand files loaded → IsGraphText operand files text
-graph_owed operand files loaded links printed constraints edges steps text adds is_printed is_said are_edges are_steps is_text whole = record {
-  entry = whole.entry;
+-- the call graph of the loaded modules
+pub graph_is : (start : Start) (files : Files) (path : List ℕ) (loaded : List Loaded) (links : List Link) (constraints : List ModuleConstraints) (edges : List Edge)
+    → Adds (LinksBelow loaded (length loaded)) [] links → constraints ≡ map (λ (l : Loaded). l.summary.lists) loaded
+    → IsEdgeList constraints links edges → IsWhole start files path loaded → IsGraph start.entry files path (map module_of loaded) edges
+graph_is start files path loaded links constraints edges adds is_said are_edges whole = record {
   found = whole.found;
-  modules = map module_of loaded;
   application = whole.application;
   links = links;
-  links_are = links_same files loaded whole.kept links adds;
+  links_are = links_same start.skip files loaded whole.kept links adds;
+  edges_are = subst (λ cs. IsEdgeList cs links edges) (is_said ∙ constraints_same start.skip files loaded whole.kept) are_edges;
+}
+
+-- and its text
+pub graph_owed : (start : Start) (files : Files) (path : List ℕ) (loaded : List Loaded) (links : List Link) (printed : List PrintedModule) (constraints : List ModuleConstraints) (edges : List Edge) (steps : List PathStep) (text : List ℕ)
+    → Adds (LinksBelow loaded (length loaded)) [] links → printed ≡ map printed_of (map module_of loaded) → constraints ≡ map (λ (l : Loaded). l.summary.lists) loaded
+    → IsEdgeList constraints links edges → steps ≡ map (edge_among printed) edges → text ≡ graph_text_of steps
+    → IsWhole start files path loaded → IsGraphText start.entry files text
+graph_owed start files path loaded links printed constraints edges steps text adds is_printed is_said are_edges are_steps is_text whole = record {
+  path = path;
+  modules = map module_of loaded;
   edges = edges;
-  edges_are = subst (λ cs. IsEdgeList cs links edges) (is_said ∙ constraints_same files loaded whole.kept) are_edges;
-  graph = is_text ∙ ap graph_text_of (are_steps ∙ ap (λ ps. map (edge_among ps) edges) is_printed ∙ edges_same (map module_of loaded) edges);
+  graph = graph_is start files path loaded links constraints edges adds is_said are_edges whole;
+  text_is = is_text ∙ ap graph_text_of (are_steps ∙ ap (λ ps. map (edge_among ps) edges) is_printed ∙ edges_same (map module_of loaded) edges);
 }

@@ -7,7 +7,7 @@ use Rattle.jam_base.specs.declared.place.Place.{Place}
 use Rattle.js_scopes.specs.Scopes.{functions_of}
 use Rattle.report_text.specs.declared.shown.PathStep.{PathStep}
 use Rattle.report_text.specs.declared.shown.Shown.{Shown}
-use Rattle.jam_app.specs.Graphs.{nowhere, shown_in}
+use Rattle.jam_app.specs.Graphs.{nowhere, place_text, shown_in}
 use Rattle.jam_app.specs.Rounds.{LoadedModule}
 
 -- a line and a column
@@ -22,14 +22,14 @@ spot_of p = record { line = p.line; column = p.column }
 abbrev pub spot_at : List ℕ → ℕ → Spot
 spot_at text offset = spot_of (place_at text offset)
 
--- what is printed of a module: its path, its text, and its functions
+-- what is printed of a module: its path, the text by which its places are told, and its functions
 pub record PrintedModule : Type 0 where
   pub path : List ℕ
   pub text : List ℕ
   pub functions : List Shown
 
 abbrev pub printed_of : LoadedModule → PrintedModule
-printed_of m = record { path = m.path; text = m.text; functions = map (shown_in m) (functions_of m.tree) }
+printed_of m = record { path = m.path; text = place_text m.text; functions = map (shown_in m) (functions_of m.tree) }
 
 -- a function of printed modules
 abbrev pub function_among : List PrintedModule → FunctionRef → Shown

@@ -1,9 +1,11 @@
 -- What reading a round finds: its texts, their trees, where their requires lead, and the refusals for them.
-use Rattle.std.specs.Prelude.{◌≡◌, ◌<◌, ℕ, List, [], map, All, Some, None, ◌+◌, ◌≤◌, ◌∷◌, ◌++◌, length, Option}
+use Rattle.std.specs.Prelude.{◌≡◌, ◌↔◌, ◌<◌, ℕ, Contains, Bool, false, List, [], map, All, Some, None, ◌+◌, ◌≤◌, ◌∷◌, ◌++◌, length, Option}
+use Rattle.std.specs.List.{filter_map}
+use Rattle.jam_app.specs.declared.loading.ends.Ends.{Ends}
 use Rattle.jam_app.specs.declared.loading.loaded.Led.{Led}
 use Rattle.jam_app.specs.declared.loading.loaded.Loaded.{Loaded}
 use Rattle.jam_app.specs.Rounds.{text_at, total_bytes, Fits}
-use Rattle.jam_app.specs.Texts.{IsBad, IsOnlyTree}
+use Rattle.jam_app.specs.Texts.{IsBad, IsTheTree}
 use Rattle.js_tree.specs.Spells.{limit}
 use Rattle.jam_base.specs.Files.{Files}
 use Rattle.flow_rules.specs.declared.module.Require.{Require}
@@ -16,7 +18,8 @@ use Rattle.jam_app.specs.declared.loading.source.Source.{Source}
 use Rattle.jam_app.specs.Entries.{module_path}
 use Rattle.js_parser.specs.declared.fault.Construct.{Construct}
 use Rattle.jam_app.specs.Refusals.{IsConstructAt, IsRefusedAt, counted_bytes}
-use Rattle.jam_app.specs.Loading.{IsKept}
+use Rattle.flow_rules.specs.Flows.{requires_of}
+use Rattle.jam_app.specs.Loading.{IsSummaryOf, Leads, missing_by}
 
 -- how many modules these are, and how many bytes their texts have together
 abbrev pub size_of : Files → List (List ℕ) → Size
@@ -49,8 +52,9 @@ pub data IsRefusedFor (path text : List ℕ) : Refusal → Type 0 where
   construct : (at : ℕ) (what : Construct) → IsBad text → length text ≤ limit → IsConstructAt text at what → IsRefusedFor path text (refusal.Construct path at what)
   not_in_profile : (at : ℕ) → IsBad text → length text ≤ limit → IsRefusedAt text at → IsRefusedFor path text (refusal.NotInProfile path at)
 
--- the refusal for the first of the modules that has no tree
-pub record HasBad (sources : List Source) (owed : Refusal) : Type 0 where
+-- the refusal for the first of the modules that has no tree, where such modules aren't skipped
+pub record HasBad (skip : Bool) (sources : List Source) (owed : Refusal) : Type 0 where
+  pub unskipped : skip ≡ false
   pub front : List Source
   pub source : Source
   pub behind : List Source
@@ -58,9 +62,9 @@ pub record HasBad (sources : List Source) (owed : Refusal) : Type 0 where
   pub none_bad : All (λ s. IsBad s.text → ⊥) front
   pub refused : IsRefusedFor source.path source.text owed
 
--- the tree is the only one of the text
-abbrev pub IsParsed : Parsed → Type 0
-IsParsed p = IsOnlyTree p.source.text p.tree
+-- the tree is the one that is worked with
+abbrev pub IsParsed : Bool → Parsed → Type 0
+IsParsed skip p = IsTheTree skip p.source.text p.tree p.skipped
 
 -- where a require leads, if to a module
 abbrev pub led_to : ℕ → Option (List ℕ) → Option Led
@@ -70,14 +74,24 @@ led_to offset (Some path) = Some (record { offset = offset; path = path })
 abbrev pub led_by : Files → List ℕ → Require → Option Led
 led_by files from require = led_to require.offset (module_path (target_of files from require.spec))
 
+-- where requires lead that lead to modules, and those that lead nowhere
+pub record AreEnds (files : Files) (from : List ℕ) (requires_ : List Require) (ends : Ends) : Type 0 where
+  pub targets : ends.targets.items ≡ filter_map (led_by files from) requires_
+  pub missing : ends.missing.items ≡ filter_map (missing_by files from) requires_
+
 -- the file of a loaded module
 abbrev pub source_of : Loaded → Source
 source_of l = record { path = l.path; text = l.text }
 
--- what is kept of a module is all right, and its tree is the only one
-pub record IsRead (files : Files) (l : Loaded) : Type 0 where
-  pub kept : IsKept files l
-  pub only : IsOnlyTree l.text l.tree
+-- a loaded module as it was before its requires were resolved
+abbrev pub parsed_of : Loaded → Parsed
+parsed_of l = record { source = source_of l; tree = l.tree; skipped = l.skipped }
+
+-- what is kept of a module beside its tree: the summary, where its requires lead that lead to modules, and those that lead nowhere
+pub record IsResolved (files : Files) (l : Loaded) : Type 0 where
+  pub summary : IsSummaryOf l.tree l.summary
+  pub targets : (led : Led) → Contains l.targets.items led ↔ Leads files l led
+  pub missing : l.missing.items ≡ filter_map (missing_by files l.path) (requires_of l.tree)
 
 -- the paths of the modules that these require, in order
 abbrev pub led_from : Loaded → List (List ℕ)

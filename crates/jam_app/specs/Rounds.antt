@@ -1,5 +1,5 @@
 -- The rounds in which the modules of an application are loaded.
-use Rattle.std.specs.Prelude.{◌≡◌, ◌↔◌, ◌≤◌, ℕ, ◌+◌, zero, suc, List, [], ◌∷◌, ◌++◌, length, map, All, Contains, slice_get, Some, unwrap_or}
+use Rattle.std.specs.Prelude.{◌≡◌, ◌↔◌, ◌≤◌, ℕ, ◌+◌, zero, suc, Bool, true, List, [], ◌∷◌, ◌++◌, length, map, All, Contains, slice_get, Some, unwrap_or}
 use Rattle.std.specs.List.Sorted.{IsStrictlySortedBy}
 use Rattle.std.specs.Cmp.Lexicographic.{slice_cmp}
 use Rattle.std.specs.Ordering.{nat_cmp}
@@ -13,7 +13,7 @@ use Rattle.flow_rules.specs.Flows.{requires_of}
 use Rattle.node_resolve.specs.declared.target.Target.TheVariants.{Module}
 use Rattle.node_resolve.specs.Targets.{target_of}
 use Rattle.composer.specs.declared.application.Link.{Link}
-use Rattle.jam_app.specs.Texts.{IsBad}
+use Rattle.jam_app.specs.Texts.{IsBad, empty_tree}
 
 -- the bytes of the file at a path, none where there is no file
 abbrev pub bytes_at : Files → List ℕ → List ℕ
@@ -26,7 +26,7 @@ text_at files path = source_of (bytes_at files path)
 -- the tree of a module with this text: the one that spells it, and the empty one where none does
 pub data IsTreeOf (text : List ℕ) (tree : Tree) : Type 0 where
   spelled : Spells text tree → IsTreeOf text tree
-  bad : IsBad text → tree ≡ record { body = [] } → IsTreeOf text tree
+  bad : IsBad text → tree ≡ empty_tree → IsTreeOf text tree
 
 -- a require of the module at a path has the module at the target as its target
 pub record IsRequired (files : Files) (path target : List ℕ) : Type 0 where
@@ -63,16 +63,18 @@ pub record IsLoaded (files : Files) (entry path : List ℕ) : Type 0 where
   pub is_round : IsRound files entry number before round
   pub here : Contains round path
 
--- a loaded module: its path, the text of its file, and its tree
+-- a loaded module: its path, the text of its file, its tree, and whether it is skipped
 pub record LoadedModule : Type 0 where
   pub path : List ℕ
   pub text : List ℕ
   pub tree : Tree
+  pub skipped : Bool
 
--- it is the module of the file at its path
+-- it is the module of the file at its path, and skipped exactly where no tree spells its text
 pub record IsModuleOf (files : Files) (m : LoadedModule) : Type 0 where
   pub text : m.text ≡ text_at files m.path
   pub tree : IsTreeOf m.text m.tree
+  pub skipped : (m.skipped ≡ true) ↔ IsBad m.text
 
 -- the modules of the application with this entry, by their paths
 pub record IsApplication (files : Files) (entry : List ℕ) (modules : List LoadedModule) : Type 0 where

@@ -13,8 +13,16 @@ use Rattle.jam_app.specs.Texts.{IsBad}
 use Rattle.jam_app.specs.declared.answers.line.Line.{Line}
 use Rattle.jam_app.specs.Lines.{TellsRefusal}
 use Rattle.composer.specs.Sizes.{size_limit}
-use Rattle.jam_app.specs.Graphs.{IsGraphText}
-use Rattle.jam_app.specs.Refusals.{IsConstructAt, IsRefusal, IsRefusedAt}
+use Rattle.lock_reader.specs.Lock.{lock_of}
+use Rattle.advisory_reader.specs.Advisories.{IsFault}
+use Rattle.lock_reader.specs.declared.fault.LockFault.{LockFault}
+use Rattle.lock_reader.specs.declared.fault.LockFault.TheVariants as lock_fault
+use Rattle.advisory_reader.specs.declared.fault.AdvisoryFault.{AdvisoryFault}
+use Rattle.advisory_reader.specs.declared.fault.AdvisoryFault.TheVariants as advisory_fault
+use Rattle.jam_app.specs.declared.audit.report.Output.{Output}
+use Rattle.jam_app.specs.Outcomes.{IsOwedText, IsUnrefused}
+use Rattle.word_reader.specs.Requests.{Asked}
+use Rattle.jam_app.specs.Refusals.{IsConstructAt, IsRefusedAt}
 
 -- a stop has its cause: the count rose, or the files give the refusal, which the line says
 abbrev pub HasStopCause : (Files → Refusal → Type 0) → Option Files → ℕ → ℕ → Stop → Type 0
@@ -45,10 +53,10 @@ abbrev pub Gives : {X : Type 0} → (Files → X → Type 0) → (Files → Refu
 Gives owed refused files before now (Ok x) = IfSome files (λ m. owed m x)
 Gives owed refused files before now (Err stop) = HasStopCause refused files before now stop
 
--- the text is owed for the operand, and no refusal is
-pub record IsOwed (operand : List ℕ) (files : Files) (text : List ℕ) : Type 0 where
-  pub graph : IsGraphText operand files text
-  pub unrefused : (owed : Refusal) → IsRefusal operand files owed → ⊥
+-- the output is owed, and no refusal is
+pub record IsOwed (asked : Asked) (files : Files) (output : Output) : Type 0 where
+  pub text : IsOwedText asked files output.text output.alarmed
+  pub unrefused : IsUnrefused asked files
 
 -- composition stops for want of memory, or since the parts have this size and are too wide
 abbrev pub StopsWide : ℕ → Stop → Type 0
@@ -67,3 +75,26 @@ StopsFor path (bad.TooLarge n) stop = Refuses (refusal.TooLarge path n) stop
 StopsFor path (bad.Construct place what) stop = Refuses (refusal.Construct path place.offset what) stop
 StopsFor path (bad.At place) stop = Refuses (refusal.NotInProfile path place.offset) stop
 StopsFor path bad.OutOfMemory stop = stop ≡ OutOfMemory
+
+-- what a fault of the lockfile means for the run: want of memory is no refusal
+abbrev pub StopsForLock : LockFault → Stop → Type 0
+StopsForLock lock_fault.NotJson stop = Refuses (refusal.Lock lock_fault.NotJson) stop
+StopsForLock (lock_fault.Shape place) stop = Refuses (refusal.Lock (lock_fault.Shape place)) stop
+StopsForLock (lock_fault.Version found) stop = Refuses (refusal.Lock (lock_fault.Version found)) stop
+StopsForLock lock_fault.OutOfMemory stop = stop ≡ OutOfMemory
+
+-- and one of the advisories
+abbrev pub StopsForAdvisories : AdvisoryFault → Stop → Type 0
+StopsForAdvisories advisory_fault.NotJson stop = Refuses (refusal.Advisory advisory_fault.NotJson) stop
+StopsForAdvisories advisory_fault.Shape stop = Refuses (refusal.Advisory advisory_fault.Shape) stop
+StopsForAdvisories (advisory_fault.Field index field) stop = Refuses (refusal.Advisory (advisory_fault.Field index field)) stop
+StopsForAdvisories (advisory_fault.Range index at) stop = Refuses (refusal.Advisory (advisory_fault.Range index at)) stop
+StopsForAdvisories advisory_fault.OutOfMemory stop = stop ≡ OutOfMemory
+
+-- reading a lockfile stops for want of memory, or for the fault of its bytes
+abbrev pub StopsForBytes : List ℕ → Stop → Type 0
+StopsForBytes bytes stop = (stop ≡ OutOfMemory) ⊎ ((fault : LockFault) × (lock_of bytes ≡ Err fault) × Refuses (refusal.Lock fault) stop)
+
+-- and so does reading the advisories
+abbrev pub StopsForText : List ℕ → Stop → Type 0
+StopsForText bytes stop = (stop ≡ OutOfMemory) ⊎ ((fault : AdvisoryFault) × IsFault bytes fault × Refuses (refusal.Advisory fault) stop)

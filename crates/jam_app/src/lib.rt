@@ -2,6 +2,7 @@
 #![tactic(auto)]
 
 mod answers;
+mod audit;
 mod commands;
 mod law;
 mod loading;
@@ -13,3 +14,4 @@ pub(crate) use answers::stop::Stop;
 pub use law::one_refusal;
 pub use loading::size::BYTE_LIMIT;
 pub use top::{ended_without_words, run};
+pub use word_reader::{Command, Request, request_of};

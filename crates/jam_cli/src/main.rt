@@ -80,18 +80,22 @@ fn main(rt: HostRuntime) -> ExitCode {
     let alloc = rt.alloc();
     let mut out = StdSink::new(rt.stdout());
     let mut err = StdSink::new(rt.stderr());
-    let status = match words_of(&rt) {
-        Ok(words) => start::<HostRuntime, StdSink<Stdout>, StdSink<Stderr>, Brand>(
-            &rt,
-            alloc,
-            words.as_slice(),
-            &mut out,
-            &mut err,
-            Blank::new(1),
-        ),
-        Err(NoWords::OutOfMemory) => ended_without_words(&mut err),
-        Err(NoWords::NotText) => Status::Usage,
+    let words = match words_of(&rt) {
+        Ok(words) => words,
+        // No words aren't canonical either.
+        Err(NoWords::NotText) => Vec::new(alloc),
+        Err(NoWords::OutOfMemory) => {
+            return ExitCode::from(ended_without_words(&mut err).number());
+        }
     };
+    let status = start::<HostRuntime, StdSink<Stdout>, StdSink<Stderr>, Brand>(
+        &rt,
+        alloc,
+        words.as_slice(),
+        &mut out,
+        &mut err,
+        Blank::new(1),
+    );
     ExitCode::from(status.number())
 }
 

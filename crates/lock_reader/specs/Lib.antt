@@ -1,3 +1,4 @@
 pub mod Lock
 pub mod Owner
+pub mod Places
 pub mod Texts

@@ -1,5 +1,5 @@
 -- Which entry of a lockfile a path belongs to (npm manual, "package-lock.json", "packages": locations are paths of package folders).
-use Rattle.std.specs.Prelude.{◌≡◌, ℕ, ◌≤◌, Bool, true, false, not, List, [], ◌∷◌, length, Option, Some, None, codes}
+use Rattle.std.specs.Prelude.{◌≡◌, ℕ, ◌≤◌, Bool, true, false, not, List, [], ◌∷◌, length, slice_get, Option, Some, None, codes}
 use Rattle.std.specs.List.{Contains, list_any}
 use Rattle.std.specs.Option.{option_and_then}
 use Rattle.std.specs.Str.{bytes_eq}
@@ -29,3 +29,8 @@ abbrev pub IsOwner : List LockEntry → List ℕ → Option LockEntry → Type 0
 IsOwner entries path None = (e : LockEntry) → Contains entries e → owns e.location path ≡ false
 IsOwner entries path (Some owner) = Contains entries owner × (owns owner.location path ≡ true)
     × ((e : LockEntry) → Contains entries e → owns e.location path ≡ true → length e.location ≤ length owner.location)
+
+-- the owner of a path is the entry at this place
+abbrev pub IsOwnerAt : List LockEntry → List ℕ → Option ℕ → Type 0
+IsOwnerAt entries path None = IsOwner entries path None
+IsOwnerAt entries path (Some place) = (e : LockEntry) × (slice_get entries place ≡ Some e) × IsOwner entries path (Some e)

@@ -6,7 +6,7 @@ use std::alloc::{AllocError, AllocFailed, Global};
 use thiserror::Error;
 
 /// Why `read_lock` gives no lockfile. The first of these that holds is the one that is told.
-#[derive(Debug, Drop, Error)]
+#[derive(Debug, PartialEq, Eq, Drop, Error)]
 pub enum LockFault {
     /// The bytes are no JSON text.
     #[error("not JSON")]

@@ -12,14 +12,14 @@ use crate::lock::{Lock, LockEntry};
 use jam_base::ModulePath;
 
 /// What follows these characters at the front of a text.
-fn after_front<'t>(front: &str, text: &'t str) -> Option<&'t str>
+pub fn after_front<'t>(front: &str, text: &'t str) -> Option<&'t str>
     ensures { option_map (λ rest. rest.now) result ≡ after_front_of front.now text.now }
 {
     text.strip_prefix(front)
 }
 
-/// What is left of a path within the folder at a location.
-fn within<'t>(location: &str, path: &'t str) -> Option<&'t str>
+/// What is left of a path within the folder at a location; the empty location is the application folder.
+pub fn within<'t>(location: &str, path: &'t str) -> Option<&'t str>
     ensures { option_map (λ rest. rest.now) result ≡ within_of location.now path.now }
 {
     if location.is_empty() {
@@ -46,7 +46,7 @@ fn enters_modules(path: &str) -> bool
 }
 
 /// Whether the path lies in the package at a location, and in none further down.
-fn owns(location: &str, path: &str) -> bool
+pub(crate) fn owns(location: &str, path: &str) -> bool
     ensures { result ≡ owns_of location.now path.now }
 {
     match within(location, path) {

@@ -1,11 +1,11 @@
 //! The call edges of an application, as they are printed.
-ghost use Rattle.std.specs.Prelude.{◌≡◌, ◌≤◌, ◌<◌, ◌++◌, ℕ, List, length, map, take, slice_get, None, Some, All, IfErr, IfOk, OnOk};
+ghost use Rattle.std.specs.Prelude.{◌≡◌, ◌≤◌, ◌<◌, ◌++◌, ℕ, Bool, [], Option, List, length, map, take, slice_get, None, Some, All, IfErr, IfOk, OnOk};
 ghost use Rattle.jam_base.specs.Files.{Files};
 ghost use Rattle.jam_app.specs.Graphs as graphs;
 ghost use Rattle.composer.specs.Sizes.{size_limit};
-ghost use Rattle.jam_app.specs.Loading.{IsWhole, loaded_size, module_of};
+ghost use Rattle.jam_app.specs.Loading.{IsAnalysed, IsWhole, loaded_size, module_of};
 ghost use Rattle.jam_app.specs.Printing.{AreOfModule, call_in, edge_among, function_among, printed_of, spot_at, spot_of};
-ghost use Rattle.jam_app.specs.Loading.{IsAnalysed};
+ghost use Rattle.jam_app.specs.Entries.{begun};
 ghost use Rattle.jam_app.specs.Rounds.{Ascend};
 ghost use Rattle.jam_app.specs.Stops.{StopsWide};
 ghost use Rattle.report_text.specs.Graph.{graph_text_of};
@@ -15,6 +15,7 @@ use crate::answers::printed::{Printed, nowhere};
 use crate::loading::links::links_of;
 use crate::loading::loaded::Loaded;
 use crate::loading::parts::{composed, parts_of};
+use crate::loading::text::TEXT_LIMIT;
 use composer::Graph;
 use jam_base::{Edge, FunctionRef, List, OutOfMemory, Place, Text};
 use report_text::{PathStep, Shown, graph_text};
@@ -23,8 +24,9 @@ use std::alloc::Global;
 /// The call graph of the loaded modules, which go by their paths.
 pub(crate) fn printed_edges(alloc: Global, loaded: Vec<Loaded>) -> Result<Text, Stop>
     requires sorted { Ascend (map (λ l. l.path) loaded.items) }
+    requires few { length loaded.items ≤ 4294967295 }
     requires analysed { All IsAnalysed loaded.items }
-    ensures text { IfOk result (λ text. (operand : List ℕ) (files : Files) → IsWhole operand files loaded.items → graphs.IsGraphText operand files text) }
+    ensures text { IfOk result (λ text. (entry : Option (List ℕ)) (skip : Bool) (files : Files) (path : List ℕ) → IsWhole (begun entry skip) files path loaded.items → graphs.IsGraphText entry files text) }
     ensures narrow { IfOk result (λ text. loaded_size loaded.items < size_limit) }
     ensures wide { IfErr result (StopsWide (loaded_size loaded.items)) }
 {
@@ -43,8 +45,8 @@ fn printed_graph(alloc: Global, printed: &[Printed], graph: &Graph) -> Result<Te
     graph_text(alloc, &List::of(steps))
 }
 
-// What is printed of the modules.
-fn printed_modules(alloc: Global, loaded: &[Loaded]) -> Result<Vec<Printed>, OutOfMemory>
+/// What is printed of the modules.
+pub(crate) fn printed_modules(alloc: Global, loaded: &[Loaded]) -> Result<Vec<Printed>, OutOfMemory>
     requires { All IsAnalysed loaded.now }
     ensures { IfOk result (λ printed. printed.items ≡ map printed_of (map module_of loaded.now)) }
 {
@@ -60,12 +62,20 @@ fn printed_module(alloc: Global, one: &Loaded) -> Result<Printed, OutOfMemory>
     requires { IsAnalysed one.now }
     ensures { IfOk result (λ printed. printed ≡ printed_of (module_of one.now)) }
 {
+    let text = place_text(one.text.as_str());
     let functions = one.summary.functions();
-    Printed::of(alloc, one.path.as_str(), one.text.as_str(), functions)
+    Printed::of(alloc, one.path.as_str(), text, functions)
 }
 
-// The edges, as they are printed. Edges of one module that stand together take one walk over its text.
-fn shown_edges(
+// The text by which places in a module are told.
+fn place_text(text: &str) -> &str
+    ensures { result.now ≡ graphs.place_text text.now }
+{
+    if text.len() > TEXT_LIMIT { "" } else { text }
+}
+
+/// The edges, as they are printed. Edges of one module that stand together take one walk over its text.
+pub(crate) fn shown_edges(
     alloc: Global,
     printed: &[Printed],
     edges: &[Edge],
@@ -81,6 +91,21 @@ fn shown_edges(
         rest = behind;
     }
     Ok(steps)
+}
+
+/// An edge, as it is printed. It takes a walk over the text of its module.
+pub(crate) fn shown_edge(
+    alloc: Global,
+    printed: &[Printed],
+    edge: &Edge,
+) -> Result<PathStep, OutOfMemory>
+    ensures { IfOk result (λ step. step ≡ edge_among printed.now edge.now) }
+{
+    let callee = function_of(alloc, printed, edge.callee)?;
+    match printed.get(edge.caller.module as usize) {
+        None => Ok(stray(alloc, callee)?),
+        Some(caller) => call_of(alloc, caller, edge.offset, callee),
+    }
 }
 
 // How many edges at the front have their caller in module m.
@@ -129,14 +154,34 @@ fn push_stray(
 {
     for edge in edges {
         let callee = function_of(alloc, printed, edge.callee)?;
-        steps.push(PathStep {
-            path: Text::of(alloc, "")?,
-            line: 1,
-            column: 1,
-            callee,
-        })?;
+        steps.push(stray(alloc, callee)?)?;
     }
     Ok(())
+}
+
+// A call of this function in a module that isn't there.
+fn stray(alloc: Global, callee: Shown) -> Result<PathStep, OutOfMemory>
+    ensures { IfOk result (λ step. step ≡ record { path = []; line = 1; column = 1; callee = callee }) }
+{
+    Ok(PathStep {
+        path: Text::of(alloc, "")?,
+        line: 1,
+        column: 1,
+        callee,
+    })
+}
+
+// A call of this function at the offset, as it is printed.
+fn call_of(
+    alloc: Global,
+    caller: &Printed,
+    offset: u32,
+    callee: Shown,
+) -> Result<PathStep, OutOfMemory>
+    ensures { IfOk result (λ step. step ≡ call_in offset callee caller.now) }
+{
+    let place = caller.place(offset);
+    call_at(alloc, caller, &place, callee)
 }
 
 // The offsets of the edges.
@@ -189,8 +234,8 @@ fn call_at(
     })
 }
 
-// The function, as it is printed.
-fn function_of(
+/// The function, as it is printed.
+pub(crate) fn function_of(
     alloc: Global,
     printed: &[Printed],
     function: FunctionRef,

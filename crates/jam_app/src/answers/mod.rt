@@ -1,5 +1,6 @@
 //! What a run answers: its status, the text that is owed, and the line for the error output.
 pub(crate) mod edges;
+pub(crate) mod file_message;
 pub(crate) mod line;
 pub(crate) mod message;
 pub(crate) mod printed;

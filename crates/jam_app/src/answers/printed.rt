@@ -4,13 +4,13 @@ ghost use Rattle.std.specs.Str.{IsCharBoundary};
 ghost use Rattle.jam_app.specs.Graphs.{nowhere, shown_at};
 ghost use Rattle.jam_app.specs.Printing.{spot_at, spot_of};
 
-use jam_base::{OutOfMemory, Place, Text, places_of};
+use jam_base::{OutOfMemory, Place, Text, place_of, places_of};
 use js_scopes::FunctionInfo;
-use report_text::Shown;
+use report_text::{PathStep, Shown};
 use std::alloc::Global;
 use std::marker::Model;
 
-/// What is printed of a module: its path, its text and its functions.
+/// What is printed of a module: its path, the text by which its places are told, and its functions.
 #[derive(Drop)]
 pub(crate) struct Printed {
     path: Text,
@@ -63,6 +63,13 @@ impl Printed {
         places_within(alloc, self.text.as_str(), offsets)
     }
 
+    /// Where an offset is; one past the end counts as the end, and one within a character as its front.
+    pub(crate) fn place(&self, offset: u32) -> Place
+        ensures { spot_of result ≡ spot_at self.now.text offset }
+    {
+        place_within(self.text.as_str(), offset)
+    }
+
     /// The function with this number.
     pub(crate) fn function(&self, alloc: Global, number: u32) -> Result<Shown, OutOfMemory>
         ensures { IfOk result (λ shown. shown ≡ unwrap_or (slice_get self.now.functions number) nowhere) }
@@ -84,6 +91,18 @@ pub(crate) fn nowhere(alloc: Global) -> Shown
         column: 1,
         name: Text::from_string(String::new(alloc)),
     }
+}
+
+/// A call edge equal to this one.
+pub(crate) fn copied_step(alloc: Global, step: &PathStep) -> Result<PathStep, OutOfMemory>
+    ensures { IfOk result (λ made. made ≡ step.now) }
+{
+    Ok(PathStep {
+        path: step.path.copy(alloc)?,
+        line: step.line,
+        column: step.column,
+        callee: copied(alloc, &step.callee)?,
+    })
 }
 
 fn copied(alloc: Global, shown: &Shown) -> Result<Shown, OutOfMemory>
@@ -153,6 +172,14 @@ fn places_within(alloc: Global, text: &str, offsets: &[u32]) -> Result<Vec<Place
 {
     let within = within(alloc, text, offsets)?;
     places_of(alloc, text, within.as_slice())
+}
+
+// Where an offset is; one past the end counts as the end, and one within a character as its front.
+fn place_within(text: &str, offset: u32) -> Place
+    requires { length text.now < 4294967295 }
+    ensures { spot_of result ≡ spot_at text.now offset }
+{
+    place_of(text, text.floor_char_boundary(offset as usize) as u32)
 }
 
 // The offsets, where one past the end counts as the end, and one within a character as its front.

@@ -1,11 +1,21 @@
 //! Why a request is refused.
+use advisory_reader::AdvisoryFault;
 use jam_base::ModulePath;
 use js_parser::Construct;
+use lock_reader::LockFault;
 
 /// Why a request is refused.
 #[derive(Debug, PartialEq, Eq, Drop)]
 pub enum Refusal {
-    /// The operand names no file that can be an entry.
+    /// Neither `npm-shrinkwrap.json` nor `package-lock.json` is in the application folder.
+    NoLock,
+    /// The first of the two that is there is no lockfile; never for want of memory.
+    Lock(LockFault),
+    /// The operand names no file in the application folder.
+    NoAdvisories,
+    /// The file of advisories isn't as it must be; never for want of memory.
+    Advisory(AdvisoryFault),
+    /// The entry isn't a file that can be one.
     NoEntry,
     /// The application has more than 16,384 modules, or their texts have more than 67,108,864 bytes
     /// together.

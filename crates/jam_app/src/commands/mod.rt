@@ -1,3 +1,3 @@
-//! What the words ask for, and the text that each command owes.
+//! The text that each command owes.
+pub(crate) mod audit;
 pub(crate) mod graph;
-pub(crate) mod request;

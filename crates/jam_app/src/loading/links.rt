@@ -1,5 +1,5 @@
 //! Links between loaded modules.
-ghost use Rattle.std.specs.Prelude.{◌≡◌, ◌↔◌, ◌≤◌, ℕ, [], length, map, All, Some, IfOk, OnOk};
+ghost use Rattle.std.specs.Prelude.{◌≡◌, ◌↔◌, ◌≤◌, ℕ, [], length, map, All, Contains, Some, IfOk, OnOk};
 ghost use Rattle.composer.specs.Parts.{AreLinks};
 ghost use Rattle.jam_app.specs.Loading.{IsAnalysed};
 ghost use Rattle.jam_app.specs.Links.{Adds, AreUpTo, LeadFrom, LinksAmong, LinksBelow, LinksOf, MayAdd, StandsAt};
@@ -13,13 +13,11 @@ use std::alloc::Global;
 /// The links between the loaded modules, which go by their paths. Modules are given by their places.
 pub(crate) fn links_of(alloc: Global, loaded: &[Loaded]) -> Result<Vec<Link>, OutOfMemory>
     requires sorted { Ascend (map (λ l. l.path) loaded.now) }
+    requires few { length loaded.now ≤ 4294967295 }
     requires analysed { All IsAnalysed loaded.now }
     ensures links { IfOk result (λ links. Adds (LinksBelow loaded.now (length loaded.now)) [] links.items) }
     ensures ascend { IfOk result (λ links. AreLinks (map (λ l. l.summary.lists) loaded.now) links.items) }
 {
-    if loaded.len() > 4294967295 {
-        return Err(OutOfMemory);
-    }
     let mut links = Vec::new(alloc);
     for m in 0..loaded.len() {
         let targets = loaded[m].targets.as_slice();
@@ -65,8 +63,21 @@ fn push_link(loaded: &[Loaded], m: u32, led: &Led, links: &mut Vec<Link>) -> Res
     Ok(())
 }
 
-// The place of the module with the path.
-fn place_of_path(loaded: &[Loaded], path: &ModulePath) -> Option<u32>
+/// The place of the module with a path that one of them has.
+pub(crate) fn place_of_loaded(loaded: &[Loaded], path: &ModulePath) -> u32
+    requires sorted { Ascend (map (λ l. l.path) loaded.now) }
+    requires few { length loaded.now ≤ 4294967295 }
+    requires there { Contains (map (λ l. l.path) loaded.now) path.now }
+    ensures { StandsAt loaded.now result path.now }
+{
+    match place_of_path(loaded, path) {
+        Some(place) => place,
+        None => 0,
+    }
+}
+
+/// The place of the module with the path.
+pub(crate) fn place_of_path(loaded: &[Loaded], path: &ModulePath) -> Option<u32>
     requires sorted { Ascend (map (λ l. l.path) loaded.now) }
     requires few { length loaded.now ≤ 4294967295 }
     ensures { (place : ℕ) → (result ≡ Some place) ↔ StandsAt loaded.now place path.now }

@@ -1,4 +1,5 @@
 //! The modules of an application: from the operand to the loaded modules and the links between them.
+pub(crate) mod ends;
 pub(crate) mod links;
 pub(crate) mod loaded;
 pub(crate) mod module;

@@ -1,84 +1,26 @@
 //! The modules of a round.
-ghost use Rattle.std.specs.Prelude.{◌≡◌, ◌≤◌, ◌++◌, ℕ, Option, map, All, IfErr, IfOk, IfSome, OnOk};
-ghost use Rattle.std.specs.List.{filter_map};
-ghost use Rattle.std.specs.Option.{option_to_list};
+ghost use Rattle.std.specs.Prelude.{◌≡◌, ◌≤◌, ℕ, true, false, Option, map, All, IfErr, IfOk};
 ghost use Rattle.jam_base.specs.Files.{Files};
-ghost use Rattle.std.specs.List.Sorted.{IsStrictlySortedBy};
-ghost use Rattle.flow_rules.specs.Flows.{require_order};
-ghost use Rattle.jam_app.specs.Loading.{AreLed, IsAnalysed, IsSummaryOf};
+ghost use Rattle.jam_app.specs.Loading.{IsAnalysed, IsKept, IsSummaryOf};
 ghost use Rattle.js_tree.specs.Spells.{SpellsSome};
-ghost use Rattle.jam_app.specs.Reading as reading;
-ghost use Rattle.jam_app.specs.Reading.{HasBad, IsParsed, IsRead, IsRefusedFor, source_of};
-ghost use Rattle.jam_app.specs.Stops.{CountsFaults, Gives, HasStopCause, StopsFor};
+ghost use Rattle.jam_app.specs.Reading.{HasBad, IsParsed, IsRefusedFor, IsResolved, parsed_of, source_of};
+ghost use Rattle.jam_app.specs.Texts.{IsBad};
+ghost use Rattle.jam_app.specs.Stops.{CountsFaults, Gives, HasBadCause, HasStopCause, StopsFor};
 
 use crate::Stop;
 use crate::answers::message::{at_construct, not_in_profile, too_large};
-use crate::loading::loaded::{Led, Loaded};
-use crate::loading::source::{Source, module_path};
+use crate::loading::ends::{Ends, ends_of};
+use crate::loading::loaded::Loaded;
+use crate::loading::source::Source;
 use crate::loading::text::{Bad, tree_of};
 use flow_fold::{Summary, fold};
-use flow_rules::{Require, constraints};
+use flow_rules::constraints;
 use jam_base::{Folder, ModulePath, OutOfMemory, Steps};
 use js_scopes::bind;
 use js_tree::Tree;
-use node_resolve::{ResolveFault, resolve};
+use sqlite_items::Items;
 use std::alloc::Global;
 use std::sync::ledger::Ledger;
-
-// Where a require leads, if to a module.
-fn led_by<F: Folder>(
-    alloc: Global,
-    folder: &mut F,
-    from: &ModulePath,
-    require: &Require,
-) -> Result<Option<Led>, Stop>
-    ensures gives { Gives (λ m led. led ≡ reading.led_by m from.now require.now)
-        (λ m owed. ⊥) (F.files folder.old) (F.faults folder.old) (F.faults folder.new) result }
-    ensures offset { IfOk result (λ led. IfSome led (λ l. l.offset ≡ require.now.offset)) }
-    ensures same { F.files folder.new ≡ F.files folder.old }
-    ensures counts { CountsFaults (F.faults folder.old) (F.faults folder.new) result }
-{
-    match resolve(alloc, folder, from, require.spec.as_str()) {
-        Ok(target) => Ok(module_path(target).map(|path| Led {
-            offset: require.offset,
-            path,
-        })),
-        Err(ResolveFault::ReadFault) => Err(Stop::ReadFault),
-        Err(ResolveFault::OutOfMemory) => Err(Stop::OutOfMemory),
-    }
-}
-
-// Adds where a require leads, if to a module.
-fn push_led(targets: &mut Vec<Led>, led: Option<Led>) -> Result<(), OutOfMemory>
-    ensures { OnOk result (targets.new.items ≡ targets.old.items ++ option_to_list led) }
-{
-    if let Some(led) = led {
-        targets.push(led)?;
-    }
-    Ok(())
-}
-
-// Where the requires lead that lead to modules.
-fn targets_of<F: Folder>(
-    alloc: Global,
-    folder: &mut F,
-    from: &ModulePath,
-    requires_: &[Require],
-) -> Result<Vec<Led>, Stop>
-    requires { IsStrictlySortedBy require_order requires_.now }
-    ensures led { IfOk result (λ targets. AreLed requires_.now targets.items) }
-    ensures gives { Gives (λ m targets. targets.items ≡ filter_map (reading.led_by m from.now) requires_.now)
-        (λ m owed. ⊥) (F.files folder.old) (F.faults folder.old) (F.faults folder.new) result }
-    ensures same { F.files folder.new ≡ F.files folder.old }
-    ensures counts { CountsFaults (F.faults folder.old) (F.faults folder.new) result }
-{
-    let mut targets = Vec::new(alloc);
-    for require in requires_ {
-        let led = led_by(alloc, folder, from, require)?;
-        push_led(&mut targets, led)?;
-    }
-    Ok(targets)
-}
 
 // What is kept of what a tree says of the values of its module.
 fn summary_of(alloc: Global, tree: &Tree) -> Result<Summary, OutOfMemory>
@@ -102,25 +44,63 @@ fn stop_for(alloc: Global, path: ModulePath, bad: Bad) -> Stop
     }
 }
 
-// A file, and the tree of its text.
+// A file, and the tree of its text; that of a module that is skipped is empty.
 #[derive(Drop)]
 struct Parsed {
     source: Source,
     tree: Tree,
+    skipped: bool,
 }
 
-// The tree of a file.
+// A file whose text has no tree, where that is no want of memory and such files are skipped.
+fn skipped_file(alloc: Global, source: Source) -> Parsed
+    requires { IsBad source.text }
+    ensures source { result.source ≡ source }
+    ensures parsed { IsParsed true result }
+{
+    Parsed {
+        source,
+        tree: Tree {
+            body: Items::new(alloc),
+        },
+        skipped: true,
+    }
+}
+
+// The tree of a file; where bad modules are skipped, it may be one that has none.
 fn parsed_file<L: Ledger>(
     alloc: Global,
     source: Source,
+    skip: bool,
     steps: &mut Steps<L>,
 ) -> Result<Parsed, Stop>
-    ensures ok { IfOk result (λ p. (p.source ≡ source) × IsParsed p) }
-    ensures err { IfErr result (λ stop. (files : Option Files) (before now : ℕ) → HasStopCause (λ m owed. IsRefusedFor source.path source.text owed) files before now stop) }
+    ensures ok { IfOk result (λ p. (p.source ≡ source) × IsParsed skip p) }
+    ensures err { IfErr result (λ stop. (files : Option Files) (before now : ℕ) → HasStopCause (λ m owed. (skip ≡ false) × IsRefusedFor source.path source.text owed) files before now stop) }
 {
     match tree_of(alloc, source.text.as_str(), steps) {
-        Ok(tree) => Ok(Parsed { source, tree }),
-        Err(bad) => Err(stop_for(alloc, source.path, bad)),
+        Ok(tree) => Ok(Parsed {
+            source,
+            tree,
+            skipped: false,
+        }),
+        Err(bad) => without_tree(alloc, source, skip, bad),
+    }
+}
+
+// What a file without a tree means: it is skipped, unless such files aren't, or there was no memory.
+fn without_tree(alloc: Global, source: Source, skip: bool, bad: Bad) -> Result<Parsed, Stop>
+    requires { HasBadCause source.text bad }
+    ensures ok { IfOk result (λ p. (p.source ≡ source) × IsParsed skip p) }
+    ensures err { IfErr result (λ stop. (files : Option Files) (before now : ℕ) → HasStopCause (λ m owed. (skip ≡ false) × IsRefusedFor source.path source.text owed) files before now stop) }
+{
+    if !skip {
+        return Err(stop_for(alloc, source.path, bad));
+    }
+    match bad {
+        Bad::TooLarge(_) => Ok(skipped_file(alloc, source)),
+        Bad::Construct(_, _) => Ok(skipped_file(alloc, source)),
+        Bad::At(_) => Ok(skipped_file(alloc, source)),
+        Bad::OutOfMemory => Err(Stop::OutOfMemory),
     }
 }
 
@@ -128,22 +108,24 @@ fn parsed_file<L: Ledger>(
 fn parsed_round<L: Ledger>(
     alloc: Global,
     sources: Vec<Source>,
+    skip: bool,
     steps: &mut Steps<L>,
 ) -> Result<Vec<Parsed>, Stop>
-    ensures ok { IfOk result (λ made. (map (λ p. p.source) made.items ≡ sources.items) × All IsParsed made.items) }
-    ensures err { IfErr result (λ stop. (files : Option Files) (before now : ℕ) → HasStopCause (λ m owed. HasBad sources.items owed) files before now stop) }
+    ensures ok { IfOk result (λ made. (map (λ p. p.source) made.items ≡ sources.items) × All (IsParsed skip) made.items) }
+    ensures err { IfErr result (λ stop. (files : Option Files) (before now : ℕ) → HasStopCause (λ m owed. HasBad skip sources.items owed) files before now stop) }
 {
     let mut made = Vec::new(alloc);
     for source in sources {
-        made.push(parsed_file(alloc, source, steps)?)?;
+        made.push(parsed_file(alloc, source, skip, steps)?)?;
     }
     Ok(made)
 }
 
 // The module of a file with a tree.
 fn module_with<F: Folder>(alloc: Global, folder: &mut F, parsed: Parsed) -> Result<Loaded, Stop>
-    requires { IsParsed parsed }
-    ensures gives { Gives (λ m l. (source_of l ≡ parsed.source) × IsRead m l)
+    requires { SpellsSome parsed.tree }
+    ensures path { IfOk result (λ l. l.path ≡ parsed.source.path) }
+    ensures gives { Gives (λ m l. (parsed_of l ≡ parsed) × IsResolved m l)
         (λ m owed. ⊥) (F.files folder.old) (F.faults folder.old) (F.faults folder.new) result }
     ensures analysed { IfOk result IsAnalysed }
     ensures same { F.files folder.new ≡ F.files folder.old }
@@ -151,15 +133,22 @@ fn module_with<F: Folder>(alloc: Global, folder: &mut F, parsed: Parsed) -> Resu
 {
     let summary = summary_of(alloc, &parsed.tree)?;
     let requires_ = summary.requires_();
-    let targets = targets_of(alloc, folder, &parsed.source.path, requires_)?;
-    let Parsed { source, tree } = parsed;
+    let ends = ends_of(alloc, folder, &parsed.source.path, requires_)?;
+    let Parsed {
+        source,
+        tree,
+        skipped,
+    } = parsed;
     let Source { path, text } = source;
+    let Ends { targets, missing } = ends;
     Ok(Loaded {
         path,
         text,
         tree,
+        skipped,
         summary,
         targets,
+        missing,
     })
 }
 
@@ -169,15 +158,17 @@ pub(crate) fn modules_of<F: Folder, L: Ledger>(
     alloc: Global,
     folder: &mut F,
     sources: Vec<Source>,
+    skip: bool,
     steps: &mut Steps<L>,
 ) -> Result<Vec<Loaded>, Stop>
-    ensures gives { Gives (λ m modules. (map source_of modules.items ≡ sources.items) × All (IsRead m) modules.items)
-        (λ m owed. HasBad sources.items owed) (F.files folder.old) (F.faults folder.old) (F.faults folder.new) result }
+    ensures gives { Gives (λ m modules. (map source_of modules.items ≡ sources.items) × All (IsKept skip m) modules.items)
+        (λ m owed. HasBad skip sources.items owed) (F.files folder.old) (F.faults folder.old) (F.faults folder.new) result }
+    ensures paths { IfOk result (λ modules. map (λ l. l.path) modules.items ≡ map (λ s. s.path) sources.items) }
     ensures analysed { IfOk result (λ modules. All IsAnalysed modules.items) }
     ensures same { F.files folder.new ≡ F.files folder.old }
     ensures counts { CountsFaults (F.faults folder.old) (F.faults folder.new) result }
 {
-    let parsed = parsed_round(alloc, sources, steps)?;
+    let parsed = parsed_round(alloc, sources, skip, steps)?;
     resolved_round(alloc, folder, parsed)
 }
 
@@ -187,9 +178,10 @@ fn resolved_round<F: Folder>(
     folder: &mut F,
     round: Vec<Parsed>,
 ) -> Result<Vec<Loaded>, Stop>
-    requires { All IsParsed round.items }
-    ensures gives { Gives (λ m modules. (map source_of modules.items ≡ map (λ p. p.source) round.items) × All (IsRead m) modules.items)
+    requires { All (λ p. SpellsSome p.tree) round.items }
+    ensures gives { Gives (λ m modules. (map parsed_of modules.items ≡ round.items) × All (IsResolved m) modules.items)
         (λ m owed. ⊥) (F.files folder.old) (F.faults folder.old) (F.faults folder.new) result }
+    ensures paths { IfOk result (λ modules. map (λ l. l.path) modules.items ≡ map (λ p. p.source.path) round.items) }
     ensures analysed { IfOk result (λ modules. All IsAnalysed modules.items) }
     ensures same { F.files folder.new ≡ F.files folder.old }
     ensures counts { CountsFaults (F.faults folder.old) (F.faults folder.new) result }

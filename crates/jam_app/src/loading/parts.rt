@@ -1,6 +1,7 @@
 //! The call graph of loaded modules.
-ghost use Rattle.std.specs.Prelude.{◌≡◌, ◌<◌, map, IfErr, IfOk};
+ghost use Rattle.std.specs.Prelude.{◌≡◌, ◌<◌, ◌≤◌, length, map, IfErr, IfOk};
 ghost use Rattle.composer.specs.Edges.{IsEdgeList};
+ghost use Rattle.composer.specs.Graphs.{function_count};
 ghost use Rattle.composer.specs.Parts.{AreByPath, AreLinks, lists_of};
 ghost use Rattle.composer.specs.Sizes.{made_size, size_limit, size_of};
 ghost use Rattle.jam_app.specs.Loading.{part_of};
@@ -31,13 +32,12 @@ pub(crate) fn parts_of(alloc: Global, loaded: Vec<Loaded>) -> Result<Vec<Part>, 
 pub(crate) fn composed(alloc: Global, parts: &[Part], links: &[Link]) -> Result<Graph, Stop>
     requires paths { AreByPath parts.now }
     requires links { AreLinks (lists_of parts.now) links.now }
+    requires few { length parts.now ≤ 4294967295 }
     ensures edges { IfOk result (λ graph. IsEdgeList (lists_of parts.now) links.now graph.edges) }
+    ensures functions { IfOk result (λ graph. graph.functions ≡ function_count (lists_of parts.now)) }
     ensures narrow { IfOk result (λ graph. made_size parts.now < size_limit) }
     ensures wide { IfErr result (StopsWide (made_size parts.now)) }
 {
-    if parts.len() > 4294967295 {
-        return Err(Stop::OutOfMemory);
-    }
     let size = size_of(parts);
     if size >= SIZE_LIMIT {
         return Err(too_wide(alloc, size));
@@ -58,7 +58,8 @@ fn counted<L: Ledger>(
     requires paths { AreByPath parts.now }
     requires links { AreLinks (lists_of parts.now) links.now }
     requires size { size_of (lists_of parts.now) < size_limit }
-    ensures { IfOk result (λ graph. IsEdgeList (lists_of parts.now) links.now graph.edges) }
+    ensures edges { IfOk result (λ graph. IsEdgeList (lists_of parts.now) links.now graph.edges) }
+    ensures functions { IfOk result (λ graph. graph.functions ≡ function_count (lists_of parts.now)) }
 {
     let mut steps = Steps::<L>::new(blank);
     compose(alloc, parts, links, &mut steps)

@@ -1,6 +1,9 @@
 //! The files of modules.
-ghost use Rattle.std.specs.Prelude.{◌≡◌, ◌≤◌, ◌+◌, ◌++◌, ◌∷◌, [], ℕ, List, length, map, OnOk, Some};
+ghost use Rattle.std.specs.FinMap as finite;
+ghost use Rattle.std.specs.Option.{option_map};
+ghost use Rattle.std.specs.Prelude.{◌≡◌, ◌≤◌, ◌+◌, ◌++◌, ◌∷◌, [], ℕ, Bool, List, length, map, IfOk, OnOk, Some};
 ghost use Rattle.jam_app.specs.Entries as entries;
+ghost use Rattle.jam_app.specs.Entries.{begun};
 ghost use Rattle.jam_app.specs.Reading.{HasExcess, IsExcess, file_at, file_of, size_of};
 ghost use Rattle.jam_app.specs.Refusals.{IsLoadRefusal};
 ghost use Rattle.jam_app.specs.Rounds.{byte_limit, bytes_at, module_limit, text_at};
@@ -30,24 +33,42 @@ pub(crate) fn module_path(target: Target) -> Option<ModulePath>
     }
 }
 
-/// The path of the entry that an operand names: the target of `./` and the operand, if that is a module.
+/// The path of an entry: the target of `./` and its text, if it has one, where that is a module.
 pub(crate) fn entry_path<F: Folder>(
     alloc: Global,
     folder: &mut F,
-    operand: &str,
+    entry: Option<&str>,
 ) -> Result<ModulePath, Stop>
-    ensures gives { Gives (λ m path. entries.entry_path operand.now m ≡ Some path)
-        (IsLoadRefusal operand.now) (F.files folder.old) (F.faults folder.old) (F.faults folder.new) result }
+    ensures gives { Gives (λ m path. entries.entry_path (option_map (λ t. t.now) entry.entry) m ≡ Some path)
+        (λ m owed. (skip : Bool) → IsLoadRefusal (begun (option_map (λ t. t.now) entry.entry) skip) m owed) (F.files folder.old) (F.faults folder.old) (F.faults folder.new) result }
     ensures same { F.files folder.new ≡ F.files folder.old }
     ensures counts { CountsFaults (F.faults folder.old) (F.faults folder.new) result }
 {
-    match entry_of(alloc, folder, Some(operand)) {
+    match entry_of(alloc, folder, entry) {
         Ok(target) => match module_path(target) {
             Some(path) => Ok(path),
             None => Err(no_entry()),
         },
         Err(ResolveFault::ReadFault) => Err(Stop::ReadFault),
         Err(ResolveFault::OutOfMemory) => Err(Stop::OutOfMemory),
+    }
+}
+
+/// The bytes of the file at a path, if there is one.
+pub(crate) fn file_at<F: Folder>(
+    alloc: Global,
+    folder: &mut F,
+    path: &ModulePath,
+) -> Result<Option<Vec<u8>>, Stop>
+    ensures gives { Gives (λ m found. option_map (λ v. v.items) found ≡ finite.get m path.now)
+        (λ m owed. ⊥) (F.files folder.old) (F.faults folder.old) (F.faults folder.new) result }
+    ensures same { F.files folder.new ≡ F.files folder.old }
+    ensures counts { CountsFaults (F.faults folder.old) (F.faults folder.new) result }
+{
+    match folder.read(alloc, path) {
+        Ok(found) => Ok(found),
+        Err(ReadFailed::Failed) => Err(Stop::ReadFault),
+        Err(ReadFailed::OutOfMemory) => Err(Stop::OutOfMemory),
     }
 }
 
@@ -91,6 +112,7 @@ fn read_next<F: Folder>(
         (λ m source. (file_of source ≡ file_at m path) × ((earlier : List (List ℕ)) → size.old ≡ size_of m earlier → size.new ≡ size_of m (earlier ++ path ∷ [])))
         (λ m owed. (earlier : List (List ℕ)) → size.old ≡ size_of m earlier → IsExcess m earlier path owed)
         (F.files folder.old) (F.faults folder.old) (F.faults folder.new) result }
+    ensures path { IfOk result (λ source. source.path ≡ path) }
     ensures counted { OnOk result (size.new.modules ≡ size.old.modules + 1) }
     ensures modules { OnOk result (size.new.modules ≤ module_limit) }
     ensures bytes { OnOk result (size.new.bytes ≤ byte_limit) }
@@ -126,6 +148,7 @@ pub(crate) fn read_round<F: Folder>(
         (λ m sources. (map file_of sources.items ≡ map (file_at m) round.items) × ((earlier : List (List ℕ)) → size.old ≡ size_of m earlier → size.new ≡ size_of m (earlier ++ round.items)))
         (λ m owed. (earlier : List (List ℕ)) → size.old ≡ size_of m earlier → HasExcess m earlier round.items owed)
         (F.files folder.old) (F.faults folder.old) (F.faults folder.new) result }
+    ensures paths { IfOk result (λ sources. map (λ s. s.path) sources.items ≡ round.items) }
     ensures counted { OnOk result (size.new.modules ≡ size.old.modules + length round.items) }
     ensures modules { OnOk result (size.new.modules ≤ module_limit) }
     ensures bytes { OnOk result (size.new.bytes ≤ byte_limit) }

@@ -1,5 +1,7 @@
-use Rattle.std.proofs.Common.{◌≡◌, ◌<◌, [], length, map, ap, refl, sym, subst, ◌∙◌}
+use Rattle.std.proofs.Common.{◌≡◌, ◌≤◌, ◌<◌, [], length, map, arith, ap, refl, sym, subst, ◌∙◌}
+use Rattle.std.specs.Prelude.{All}
 use Rattle.std.specs.List.Sorted.{IsStrictlySortedBy}
+use Rattle.std.proofs.lemmas.List.{length-map}
 use Rattle.std.specs.Cmp.Lexicographic.{slice_cmp}
 use Rattle.std.specs.Ordering.{nat_cmp}
 use Rattle.composer.specs.Edges.{IsEdgeList}
@@ -7,7 +9,8 @@ use Rattle.composer.specs.Parts.{AreByPath, AreLinks, lists_of}
 use Rattle.composer.specs.Sizes.{made_size, size_limit}
 use Rattle.report_text.specs.Graph.{graph_text_of}
 use Rattle.jam_app.specs.declared.loading.loaded.Loaded.{Loaded}
-use Rattle.jam_app.specs.Loading.{loaded_size, module_of}
+use Rattle.jam_app.specs.Entries.{begun}
+use Rattle.jam_app.specs.Loading.{IsAnalysed, loaded_size, module_of, part_of}
 use Rattle.jam_app.specs.Links.{Adds, LinksBelow}
 use Rattle.jam_app.specs.Printing.{edge_among, printed_of}
 use Rattle.jam_app.specs.Stops.{StopsWide}
@@ -29,6 +32,12 @@ composed-requires-clause-links c =
     subst (λ ls. AreLinks (lists_of c.as_slice-3.result.now) ls) (sym c.as_slice-4.ensures.value)
     (subst (λ ms. AreLinks ms links) (sym (ap lists_of (c.as_slice-3.ensures.value ∙ c.in_ok-parts.ensures) ∙ parts_lists loaded)) are)
 
+pub composed-requires-clause-few : goal.composed-requires-clause-few
+composed-requires-clause-few c =
+    let loaded = c.args.loaded.items in
+    let long : length c.as_slice-3.result.now ≡ length loaded = ap length (c.as_slice-3.ensures.value ∙ c.in_ok-parts.ensures) ∙ length-map loaded part_of in
+    omega (arith, long, c.requires.few)
+
 pub returns-in_err-graph-clause-wide : goal.returns-in_err-graph-clause-wide
 returns-in_err-graph-clause-wide c =
     let loaded = c.args.loaded.items in
@@ -42,12 +51,12 @@ returns-clause-narrow c =
     subst (λ n. n < size_limit) size c.in_ok-graph.ensures.narrow
 
 pub returns-clause-text : goal.returns-clause-text
-returns-clause-text c operand files whole =
+returns-clause-text c entry skip files path whole =
     let loaded = c.args.loaded.items in
     let links = c.in_ok-links.links.items in
     let printed = c.in_ok-printed.printed.items in
     let edges = c.in_ok-graph.graph.edges in
-    graph_owed operand files loaded links printed (lists_of c.as_slice-3.result.now) edges (map (edge_among printed) edges) c.in_ok-printed_graph.field-0
+    graph_owed (begun entry skip) files path loaded links printed (lists_of c.as_slice-3.result.now) edges (map (edge_among printed) edges) c.in_ok-printed_graph.field-0
     (subst (λ ls. Adds (LinksBelow ls (length ls)) [] links) c.as_slice.ensures.value c.in_ok-links.ensures.links)
     (c.in_ok-printed.ensures ∙ ap (λ ls. map printed_of (map module_of ls)) c.as_slice-2.ensures.value)
     (ap lists_of (c.as_slice-3.ensures.value ∙ c.in_ok-parts.ensures) ∙ parts_lists loaded)

@@ -3,7 +3,7 @@ use Rattle.std.specs.Prelude.{slice_get}
 use Rattle.std.proofs.lemmas.List.Elements.{All-get_or}
 use Rattle.std.proofs.lemmas.Option.{slice_get_read}
 use Rattle.jam_app.specs.declared.loading.loaded.Loaded.{Loaded}
-use Rattle.jam_app.specs.Links.{Adds, AreUpTo, LinksAmong, LinksBelow}
+use Rattle.jam_app.specs.Links.{Adds, AreUpTo, LeadFrom, LinksAmong, LinksBelow}
 use Rattle.jam_app.specs.Loading.{AreLed, IsAnalysed}
 use Rattle.jam_app.proofs.Ascending.{up_to_next, up_to_none}
 use Rattle.jam_app.proofs.LinkLemmas.{Adds-nothing, below_more}

@@ -10,5 +10,5 @@ invariant-loop-source g l = record {
   finite : (goal.iterator-loop-source g).is_finite l.source-iterator;
   parts : l.fn.sources.items ≡ l.yielded ++ l.source-iterator.rest.items;
   are : map (λ (p : Parsed). p.source) l.made.items ≡ l.yielded;
-  parsed : All IsParsed l.made.items;
+  parsed : All (IsParsed l.skip) l.made.items;
 }

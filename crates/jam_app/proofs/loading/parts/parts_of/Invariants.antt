@@ -1,4 +1,5 @@
 use Rattle.std.proofs.Common.{◌≡◌, ◌++◌, map}
+use Rattle.jam_app.specs.declared.loading.loaded.Loaded.{Loaded}
 use Rattle.jam_app.specs.Loading.{part_of}
 use Rattle.jam_app.proofs.loading.parts.parts_of.Given as goal
 

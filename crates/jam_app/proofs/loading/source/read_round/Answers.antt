@@ -1,6 +1,7 @@
 use Rattle.std.proofs.Common.{◌≡◌, ◌+◌, ◌++◌, ◌∷◌, [], ℕ, List, length, map, length-append, arith, ap, subst, sym, ◌∙◌}
-use Rattle.std.proofs.lemmas.List.{append_assoc}
+use Rattle.std.proofs.lemmas.List.{append_assoc, map-append}
 use Rattle.std.specs.Option.{IfSome}
+use Rattle.jam_app.specs.declared.loading.source.Source.{Source}
 use Rattle.jam_app.specs.Reading.{IsExcess, file_at, file_of, size_of}
 use Rattle.jam_app.proofs.Causes.{both_told, counts_on, handed_on, told}
 use Rattle.jam_app.proofs.Ends.{no_more}
@@ -18,6 +19,7 @@ loop-path-preserved g c =
       finite = tt;
       parts = inv.parts ∙ ap (λ left. c.loop-path.yielded ++ left) c.in-Some.ensures.steps.0 ∙ sym (append_assoc c.loop-path.yielded (c.in-Some.path ∷ []) c.next.new.self.rest.items);
       taken = both_told files inv.taken step (λ m t s. taken_more m c.args.size.now c.loop-path.size c.read_next.new.size c.loop-path.sources.items c.push.new.self.items c.in_ok-source.source c.loop-path.yielded c.in-Some.path t s c.in_ok-push.ensures.items);
+      paths = ap (map (λ (s : Source). s.path)) c.in_ok-push.ensures.items ∙ map-append (λ (s : Source). s.path) c.loop-path.sources.items (c.in_ok-source.source ∷ []) ∙ (λ i. inv.paths i ++ c.in_ok-source.ensures.path i ∷ []);
       counted = omega (arith, c.in_ok-source.ensures.counted, inv.counted, length-append c.loop-path.yielded (c.in-Some.path ∷ []));
       modules = c.in_ok-source.ensures.modules;
       bytes = c.in_ok-source.ensures.bytes;
@@ -49,6 +51,11 @@ returns-clause-counted g c =
     let inv = c.loop-path.invariant in
     let all : c.args.round.items ≡ c.loop-path.yielded = inv.parts ∙ no_more c.loop-path.yielded c.loop-path.path-iterator.rest.items _ c.loop-path.path-iterator.rest.ok.0 c.in-None.ensures.steps.0 in
     inv.counted ∙ ap (λ (done : List (List ℕ)). c.args.size.now.modules + length done) (sym all)
+
+pub returns-clause-paths : goal.returns-clause-paths
+returns-clause-paths g c =
+    let inv = c.loop-path.invariant in
+    inv.paths ∙ sym (inv.parts ∙ no_more c.loop-path.yielded c.loop-path.path-iterator.rest.items _ c.loop-path.path-iterator.rest.ok.0 c.in-None.ensures.steps.0)
 
 pub returns-in_err-source-clause-counts : goal.returns-in_err-source-clause-counts
 returns-in_err-source-clause-counts g c = counts_on _ _ _ c.in_err-source.field-0.0 c.from_residual.result c.from_residual.ensures.1 c.loop-path.invariant.quiet c.in_err-source.ensures.counts

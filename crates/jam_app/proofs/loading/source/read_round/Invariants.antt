@@ -1,5 +1,6 @@
-use Rattle.std.proofs.Common.{◌≡◌, ◌+◌, ◌++◌, ◌≤◌, length}
+use Rattle.std.proofs.Common.{◌≡◌, ◌+◌, ◌++◌, ◌≤◌, length, map}
 use Rattle.std.specs.Option.{IfSome}
+use Rattle.jam_app.specs.declared.loading.source.Source.{Source}
 use Rattle.jam_app.proofs.Sizes.{Taken}
 use Rattle.jam_app.proofs.loading.source.read_round.Given as goal
 
@@ -9,6 +10,7 @@ invariant-loop-path g l = record {
   finite : (goal.iterator-loop-path g).is_finite l.path-iterator;
   parts : l.fn.round.items ≡ l.yielded ++ l.path-iterator.rest.items;
   taken : IfSome (g.F.Folder.files l.fn.folder) (λ m. Taken m l.fn.size l.size l.sources.items l.yielded);
+  paths : map (λ (s : Source). s.path) l.sources.items ≡ l.yielded;
   counted : l.size.modules ≡ l.fn.size.modules + length l.yielded;
   modules : l.size.modules ≤ 16384;
   bytes : l.size.bytes ≤ 67108864;

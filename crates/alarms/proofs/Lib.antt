@@ -1,0 +1,4 @@
+pub mod AddsLemmas
+pub mod PackageLemmas
+pub mod SearchLemmas
+pub mod SortLemmas

@@ -1,0 +1,5 @@
+pub mod Affected
+pub mod Alarms
+pub mod Packages
+pub mod Searching
+pub mod Versions

@@ -1,4 +1,0 @@
-use Rattle.app_tests.proofs.jam_app_tests.calls_have_edges_to_what_comes_to_their_callee.Given as goal
-
-abbrev pub ghosts-ran : goal.ghosts-ran
-ghosts-ran g a = record { name = a.blank.name; parts = a.blank.parts }

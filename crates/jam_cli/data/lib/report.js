@@ -1,9 +1,0 @@
-var format = require("./format");
-
-exports.print = function () {
-  format.line();
-};
-
-exports.summary = function () {
-  format.line();
-};

@@ -1,7 +1,0 @@
-var report = require("./lib/report");
-
-function main() {
-  report.print();
-}
-
-main();

@@ -1,1 +1,0 @@
-exports.line = function () { };
