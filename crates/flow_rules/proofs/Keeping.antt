@@ -31,7 +31,8 @@ use Rattle.flow_rules.specs.Rules.{HasFunction, HasRequire, IsFlow, IsFunction, 
 use Rattle.flow_rules.specs.Vertices.{flow_order, vertex_key}
 use Rattle.flow_rules.proofs.CallRules.{pick_some, sites_held}
 use Rattle.flow_rules.proofs.FlowsThere.{flows_there, held}
-use Rattle.flow_rules.proofs.Lengths.{few_flows, few_notes, few_requires, few_sites}
+use Rattle.flow_rules.proofs.FlowLengths.{few_flows}
+use Rattle.flow_rules.proofs.Lengths.{few_notes, few_requires, few_sites}
 use Rattle.flow_rules.proofs.NodesOfTree.{IsNodeOf, all_in, found, function_total, in_text, inner}
 use Rattle.flow_rules.proofs.Ones.{contained, each_itself, is_at, nat_same, one_of, own_once, some_from}
 use Rattle.flow_rules.proofs.Order.{ranked_equal}
@@ -94,7 +95,7 @@ module _ (tree : Tree) (h : IsInText (ABody tree.body)) where
   requires_kept : (n : Node) (k : ℕ) → In n → HasFunction lists k → AllByRecursion (IsRequire c) (own_requires known n k)
   requires_kept (ATail head before (tail.Call a)) k i lt =
       let given = elements_have IsInText AnExpr a [] (parts_in_text (ATail head before (tail.Call a)) (in_text tree (ATail head before (tail.Call a)) i)) in
-      pick_some (IsRequire c) (is_require_alone known head before) (call_requires a.open.start k (first_string (elements a))) (spec_kept a.open.start k (first_string (elements a)) lt (first_short (elements a) given))
+      pick_some (IsRequire c) (is_require_alone known head before) (call_requires a.open.start k (first_string (elements a))) (spec_kept a.open.start k (first_string (elements a)) lt (first_short (elements a) given.0))
   requires_kept (ATail head before (tail.Template t)) k i lt = tt
   requires_kept (ATail head before (tail.Member dot name)) k i lt = tt
   requires_kept (ATail head before (tail.Index begin x end)) k i lt = tt
@@ -103,7 +104,7 @@ module _ (tree : Tree) (h : IsInText (ABody tree.body)) where
   -- WHAT IS THERE IS THERE IN ORDER
 
   one_site : (offset part : ℕ) → count_by (is_at offset part) S ≤ 1
-  one_site offset part = let o = h.once offset in let k = counted (own_sites known) (holder_in known) (is_at offset part) (λ (t : Token). t.start == offset) (own_once known offset part) body 0 in omega (arith, o, k)
+  one_site offset part = let o = h.once offset in let k = counted (own_sites known) (holder_in known) (is_at offset part) (λ (t : Token). t.start == offset) (λ n. 0) (λ n j. (let a = own_once known offset part n j in omega (arith, a))) body 0 in omega (arith, o, k)
 
   at_place : (offset part : ℕ) (s : SiteInfo) → s.offset ≡ offset → s.part ≡ part → is_at offset part s ≡ true
   at_place offset part s e p = λ i. nat_same s.offset offset e i && nat_same s.part part p i

@@ -1,4 +1,5 @@
 pub mod CallRules
+pub mod FlowLengths
 pub mod FlowsThere
 pub mod Keeping
 pub mod Lengths

@@ -4,7 +4,7 @@ use Rattle.std.specs.List.{AllByRecursion}
 use Rattle.std.specs.Str.{bytes_eq}
 use Rattle.js_tree.specs.declared.token.Token.{Token}
 use Rattle.js_tree.specs.declared.tree.Expr.{out-Expr}
-use Rattle.js_tree.specs.declared.tree.Function.{Function}
+use Rattle.js_tree.specs.declared.tree.Function.{Function, out-Function}
 use Rattle.js_tree.specs.declared.tree.Pattern.{out-Pattern}
 use Rattle.js_tree.specs.declared.tree.Stmt.{out-Stmt}
 use Rattle.js_tree.specs.Parts.{Node, AnExpr, AFunction, APattern, AStmt}
@@ -12,9 +12,9 @@ use Rattle.js_tree.proofs.EachNode.{Everywhere, gathered_keeps}
 use Rattle.js_scopes.specs.declared.binding.Binding.{Binding}
 use Rattle.js_scopes.specs.declared.binding.Binding.TheVariants as binding
 use Rattle.js_scopes.specs.declared.binding.WrapperName.{WrapperName}
-use Rattle.js_scopes.specs.Functions.{start_of}
+use Rattle.js_scopes.specs.Functions.{is_arrow, start_of}
 use Rattle.js_scopes.specs.Names.{Around, Numbering, Scope, binding_at, declarer, function_number, local_number, outside, undeclared, wrapper_name}
-use Rattle.js_scopes.specs.Scopes.{around_in, around_with, bound_name, declared_by_stmt, meaning, names_in, number_in, own_names, scope_in, tokens_in_expr, tokens_in_pattern}
+use Rattle.js_scopes.specs.Scopes.{around_in, around_with, bound_name, declared_by_stmt, meaning, names_in, number_in, number_inside, own_names, scope_in, tokens_in_expr, tokens_in_pattern}
 
 abbrev Result : {A B : Type 0} → (A → B) → Type 0
 Result {A} {B} f = B
@@ -57,11 +57,19 @@ module _ (numbering : Numbering) (N : ℕ) (A : Node → Type 0) (below : (f : F
   names_below around lt [] = tt
   names_below around lt (t ∷ ts) = (bound_below around lt t, names_below around lt ts)
 
+  -- in an arrow the innermost function that is none stays the same
+  inside_held : (around : Around) → IsHeld around → (f : Function) → A (AFunction f) → number_inside numbering f around.holder < N
+  inside_held around lt f a = by (is_arrow (out-Function f))
+    where
+      by : (z : Bool) → (if z then around.holder else function_number numbering (start_of f)) < N
+      by true = lt
+      by false = below f a
+
   around_held : (m : Node) (around : Around) → A m → IsHeld around → IsHeld (around_in numbering m around)
   around_held m around a lt = by (scope_in m) (numbered m a)
     where
       numbered : (k : Node) → A k → number_in numbering k around.holder < N
-      numbered (AFunction f) b = below f b
+      numbered (AFunction f) b = inside_held around lt f b
       numbered _ b = lt
 
       by : (o : Option Scope) → number_in numbering m around.holder < N → IsHeld (around_with o (number_in numbering m around.holder) around)

@@ -20,7 +20,7 @@ use Rattle.js_scopes.specs.Scopes.{function_order, functions_of, known_of, numbe
 use Rattle.flow_rules.specs.Constraints.{ModuleConstraints}
 use Rattle.flow_rules.specs.Requires.{own_requires, requires_in}
 use Rattle.flow_rules.specs.Rules.{HasFunction, HasParam}
-use Rattle.flow_rules.proofs.Ones.{at_count, contained, count_below, each_itself, functions_once, nat_same, one_of, own_of_text, some_from, starts_at}
+use Rattle.flow_rules.proofs.Ones.{at_count, contained, count_below, each_itself, functions_once, name_left, nat_same, one_of, own_of_text, some_from, starts_at}
 use Rattle.flow_rules.proofs.Order.{ranked_equal}
 use Rattle.flow_rules.proofs.SortedLemmas.{Some_in, all_ascending, some_ascending, sorted_ascending}
 
@@ -56,7 +56,7 @@ module _ (tree : Tree) where
   below_at f m = let count = count_below f.start (ascending function_order inner) (kept f m) in omega (arith, count)
 
   one_function : IsInText (ABody tree.body) → (offset : ℕ) → count_by (starts_at offset) inner ≤ 1
-  one_function h offset = let o = h.once offset in let k = counted own_functions given_in (starts_at offset) (λ (t : Token). t.start == offset) (functions_once offset) (ABody tree.body) None in omega (arith, o, k)
+  one_function h offset = let o = h.once offset in let k = counted own_functions given_in (starts_at offset) (λ (t : Token). t.start == offset) (name_left offset) (functions_once offset) (ABody tree.body) None in omega (arith, o, k)
 
   -- and its parameters
   pub param_at : IsInText (ABody tree.body) → (f : FunctionInfo) → Contains inner f → (i : ℕ) → i < f.params → HasParam found (number f) i

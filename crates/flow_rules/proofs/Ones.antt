@@ -5,21 +5,27 @@ use Rattle.std.specs.List.Sorted.{IsStrictlySortedBy}
 use Rattle.std.specs.Ordering.{nat_cmp}
 use Rattle.std.specs.declared.cmp.Ordering.TheVariants.{Less}
 use Rattle.js_scopes.specs.Scopes.{function_order}
-use Rattle.std.specs.List.{AllByRecursion, count_by, flat_map}
+use Rattle.std.specs.List.{AllByRecursion, count_by, flat_map, sum_by}
 use Rattle.std.proofs.lemmas.Bool.Decides.{Decides-ltb, nat_tests}
 use Rattle.std.proofs.lemmas.Cmp.{ranked}
 use Rattle.std.proofs.lemmas.List.Elements.{All-contains_itself, recursion_from_All}
-use Rattle.std.proofs.lemmas.List.Sums.{count_by-le-length}
+use Rattle.std.proofs.lemmas.List.Sums.{count_by-le-length, sum_by-cons}
 use Rattle.js_tree.specs.declared.token.Token.{Token}
+use Rattle.js_tree.specs.declared.lists.ArrowParams.TheVariants as shape
 use Rattle.js_tree.specs.declared.lists.Tail.TheVariants as tail
 use Rattle.js_tree.specs.declared.tree.Expr.{out-Expr}
-use Rattle.js_tree.specs.declared.tree.Expr.TheOpen.{Expr-F, Function-F}
+use Rattle.js_tree.specs.declared.tree.Expr.TheOpen.{Expr-F, Function-F, Pattern-F}
 use Rattle.js_tree.specs.declared.tree.Function.{out-Function}
-use Rattle.js_tree.specs.Folds.{ExprLayer, FunctionLayer}
-use Rattle.js_tree.specs.Line.{items}
-use Rattle.js_tree.specs.Parts.{Node, AnExpr, AFunction, ATail, parts}
+use Rattle.js_tree.specs.declared.tree.Pattern.{out-Pattern}
+use Rattle.js_tree.specs.declared.tree.Slot.{Slot, out-Slot}
+use Rattle.js_tree.specs.Folds.{ExprLayer, FunctionLayer, PatternLayer}
+use Rattle.js_tree.specs.Line.{given_marks, items}
+use Rattle.js_tree.specs.Parts.{Node, AnExpr, AFunction, APattern, ASlot, ATail, nodes, parts}
 use Rattle.js_tree.specs.Spelling.Expressions.{expr_row}
 use Rattle.js_tree.specs.Spelling.Functions.{function_row}
+use Rattle.js_tree.specs.Spelling.Nodes.{unmarked}
+use Rattle.js_tree.specs.Spelling.Patterns.{pattern_row}
+use Rattle.js_tree.specs.Spelling.Rows.{block_row, init_row, maybe}
 use Rattle.js_tree.specs.Tokens.{IsInText, IsOfText, own_tokens, tokens_among, tokens_in}
 use Rattle.js_tree.proofs.GatherLemmas.{each_front}
 use Rattle.js_tree.proofs.TokenLemmas.{tokens_are}
@@ -27,7 +33,7 @@ use Rattle.js_scopes.specs.declared.function.FunctionInfo.{FunctionInfo}
 use Rattle.js_scopes.specs.declared.site.SiteInfo.{SiteInfo}
 use Rattle.js_scopes.specs.Brackets.{elements, placed}
 use Rattle.js_scopes.specs.Calls.{Known, call_sites, is_reflected, is_required, last_member, made_with, own_sites, passed_on, sites_of_expr, unrequired_sites}
-use Rattle.js_scopes.specs.Functions.{info_in, own_functions}
+use Rattle.js_scopes.specs.Functions.{first_token, info_in, name_token, own_functions}
 use Rattle.js_scopes.proofs.Counts.{count_cons, one_if}
 use Rattle.flow_rules.specs.Rules.{IsShort}
 use Rattle.flow_rules.proofs.SortedLemmas.{Some_in}
@@ -218,14 +224,65 @@ own_once known offset part _ c = omega arith
 abbrev pub starts_at : ℕ → FunctionInfo → Bool
 starts_at offset f = nat_eq f.start offset
 
-function_once : (offset : ℕ) (l : FunctionLayer) (given : Option Token) → count_by (starts_at offset) (info_in l given ∷ []) ≤ count_by (λ (t : Token). t.start == offset) (tokens_among (function_row items l []))
-function_once offset (Function-F.Keyword word name params body) given =
-    let a = count_cons (starts_at offset) (info_in (Function-F.Keyword word name params body) given) [] in
-    let b = first_counts offset word (tokens_among (function_row items (Function-F.Keyword word name params body) [])) _ refl in
+-- a name that is a pattern, or a slot's, is left to a function that begins with it
+abbrev pub pattern_left : ℕ → PatternLayer → ℕ
+pattern_left offset (Pattern-F.«Pattern::Name» t) = one_if (nat_eq t.start offset)
+pattern_left offset _ = 0
+
+abbrev pub target_left : ℕ → Slot → ℕ
+target_left offset s = pattern_left offset (out-Pattern (out-Slot s).target)
+
+abbrev pub name_left : ℕ → Node → ℕ
+name_left offset (APattern x) = pattern_left offset (out-Pattern x)
+name_left offset (ASlot x) = target_left offset x
+name_left offset _ = 0
+
+abbrev at_offset : ℕ → Token → Bool
+at_offset offset t = t.start == offset
+
+-- with its first token, or with what its first parameter has left
+one_more : (offset start : ℕ) (f : FunctionInfo) → f.start ≡ start → count_by (starts_at offset) (f ∷ []) ≡ one_if (nat_eq start offset)
+one_more offset start f e = let a = count_cons (starts_at offset) f [] in let b = ap (λ s. one_if (nat_eq s offset)) e in omega (arith, a, b)
+
+arrow_once : (offset : ℕ) (s : Slot) (arrow : Token) (ts : List Token) (ns : List Node) → one_if (nat_eq (first_token (shape.Bare s) arrow).start offset) ≤ count_by (at_offset offset) (arrow ∷ ts) + sum_by (name_left offset) (ASlot s ∷ ns)
+arrow_once offset s arrow ts ns = by (out-Pattern (out-Slot s).target) refl
+  where
+    by : (l : PatternLayer) → out-Pattern (out-Slot s).target ≡ l → one_if (nat_eq (name_token l arrow).start offset) ≤ count_by (at_offset offset) (arrow ∷ ts) + sum_by (name_left offset) (ASlot s ∷ ns)
+    by (Pattern-F.«Pattern::Name» t) e = let a = sum_by-cons (name_left offset) (ASlot s) ns in let b = ap (pattern_left offset) e in omega (arith, a, b)
+    by _ e = let a = count_cons (at_offset offset) arrow ts in omega (arith, a)
+
+function_once : (offset : ℕ) (l : FunctionLayer) (given : Option Token) → count_by (starts_at offset) (info_in l given ∷ []) ≤ count_by (at_offset offset) (tokens_among (function_row items l [])) + sum_by (name_left offset) (function_row nodes l [])
+function_once offset (Function-F.Keyword word name ps body) given =
+    let a = one_more offset word.start (info_in (Function-F.Keyword word name ps body) given) refl in
+    let b = first_counts offset word (tokens_among (function_row items (Function-F.Keyword word name ps body) [])) _ refl in
+    omega (arith, a, b)
+function_once offset (Function-F.Arrow (shape.Bare s) arrow x) given =
+    let a = one_more offset (first_token (shape.Bare s) arrow).start (info_in (Function-F.Arrow (shape.Bare s) arrow x) given) refl in
+    let b = arrow_once offset s arrow [] (AnExpr x ∷ []) in
+    omega (arith, a, b)
+function_once offset (Function-F.Arrow (shape.Round ps) arrow x) given =
+    let a = one_more offset ps.open.start (info_in (Function-F.Arrow (shape.Round ps) arrow x) given) refl in
+    let b = first_counts offset ps.open (tokens_among (function_row items (Function-F.Arrow (shape.Round ps) arrow x) [])) _ refl in
+    omega (arith, a, b)
+function_once offset (Function-F.ArrowBlock (shape.Bare s) arrow body) given =
+    let a = one_more offset (first_token (shape.Bare s) arrow).start (info_in (Function-F.ArrowBlock (shape.Bare s) arrow body) given) refl in
+    let b = arrow_once offset s arrow (tokens_among (block_row given_marks items.stmt body [])) (block_row unmarked nodes.stmt body []) in
+    omega (arith, a, b)
+function_once offset (Function-F.ArrowBlock (shape.Round ps) arrow body) given =
+    let a = one_more offset ps.open.start (info_in (Function-F.ArrowBlock (shape.Round ps) arrow body) given) refl in
+    let b = first_counts offset ps.open (tokens_among (function_row items (Function-F.ArrowBlock (shape.Round ps) arrow body) [])) _ refl in
     omega (arith, a, b)
 
-pub functions_once : (offset : ℕ) (n : Node) (given : Option Token) → count_by (starts_at offset) (own_functions n given) ≤ count_by (λ (t : Token). t.start == offset) (own_tokens n)
-functions_once offset (AFunction f) given = function_once offset (out-Function f) given
+pattern_once : (offset : ℕ) (l : PatternLayer) → pattern_left offset l ≤ count_by (at_offset offset) (tokens_among (pattern_row items l []))
+pattern_once offset (Pattern-F.«Pattern::Name» t) = first_counts offset t (t ∷ []) [] refl
+pattern_once offset _ = omega arith
+
+pub functions_once : (offset : ℕ) (n : Node) (given : Option Token) → count_by (starts_at offset) (own_functions n given) + name_left offset n ≤ count_by (at_offset offset) (own_tokens n) + sum_by (name_left offset) (parts n)
+functions_once offset (AFunction f) given = let a = function_once offset (out-Function f) given in omega (arith, a)
+functions_once offset (APattern x) given = let a = pattern_once offset (out-Pattern x) in omega (arith, a)
+functions_once offset (ASlot x) given =
+    let a = sum_by-cons (name_left offset) (APattern (out-Slot x).target) (maybe (init_row unmarked nodes.expr) (out-Slot x).init []) in
+    omega (arith, a)
 functions_once offset _ given = omega arith
 
 pub nat_same : (a b : ℕ) → a ≡ b → nat_eq a b ≡ true

@@ -5,6 +5,7 @@ use Rattle.std.proofs.lemmas.List.{length-map}
 use Rattle.std.proofs.lemmas.Option.{slice_get-get_or, slice_get-map}
 use Rattle.js_tree.specs.declared.lists.Arm.{Arm}
 use Rattle.js_tree.specs.declared.lists.Bracket.{Bracket}
+use Rattle.js_tree.specs.declared.lists.Element.{Element}
 use Rattle.js_tree.specs.declared.lists.Further.{Further}
 use Rattle.js_tree.specs.declared.lists.Tail.{Tail}
 use Rattle.js_tree.specs.declared.token.Token.{Token}
@@ -17,6 +18,8 @@ use Rattle.js_tree.specs.declared.tree.Expr.TheVariants.{outs-Assign, outs-Binar
 use Rattle.js_tree.specs.declared.tree.Function.{Function}
 use Rattle.js_tree.specs.declared.tree.Pattern.{Pattern, out-Pattern}
 use Rattle.js_tree.specs.declared.tree.Pattern.TheVariants as bound
+use Rattle.js_tree.specs.declared.tree.PatternProperty.{PatternProperty}
+use Rattle.js_tree.specs.declared.tree.Slot.{Slot}
 use Rattle.js_tree.specs.Folds.{ExprLayer, PatternLayer}
 use Rattle.js_tree.specs.Operators.{is_binary}
 use Rattle.js_tree.specs.Parts.{Node, AnExpr, AFunction, APattern, folded, height, nodes}
@@ -110,7 +113,7 @@ module _ (facts : Facts) where
   pub at-Chain : (head : Expr) (tails : List (Tail Expr)) → value facts (expression.Chain head tails) ≡ value_up_to facts head tails
   at-Chain head tails = value_is (expression.Chain head tails) ∙ ap layer_value (outs-Chain head tails)
 
-  pub at-New : (word : Token) (head : Expr) (tails : List (Tail Expr)) (args : Option (Bracket Expr)) → value facts (expression.New word head tails args) ≡ result_vertex word.start
+  pub at-New : (word : Token) (head : Expr) (tails : List (Tail Expr)) (args : Option (Bracket (Element Expr))) → value facts (expression.New word head tails args) ≡ result_vertex word.start
   at-New word head tails args = value_is (expression.New word head tails args) ∙ ap layer_value (outs-New word head tails args)
 
   pub at-Binary : (level : ℕ) (first : Expr) (others : List (Further Expr)) → value facts (expression.Binary level first others) ≡ operands_value facts level others (value facts first ∷ values_of others)
@@ -129,7 +132,7 @@ module _ (facts : Facts) where
       value_is (expression.Comma first others) ∙ ap layer_value (outs-Comma first others) ∙ ap (λ vs. last_value (value facts first ∷ vs)) (further_values (is kind.Comma) others)
 
   others : (y : ExprLayer) → ((t : Token) → y ≡ Expr-F.«Expr::Name» t → ⊥) → ((b : Token) (x : Expr) (e : Token) → y ≡ Expr-F.«Expr::Paren» b x e → ⊥) → ((f : Function) → y ≡ Expr-F.«Expr::Fun» f → ⊥)
-      → ((h : Expr) (ts : List (Tail Expr)) → y ≡ Expr-F.Chain h ts → ⊥) → ((w : Token) (h : Expr) (ts : List (Tail Expr)) (a : Option (Bracket Expr)) → y ≡ Expr-F.New w h ts a → ⊥)
+      → ((h : Expr) (ts : List (Tail Expr)) → y ≡ Expr-F.Chain h ts → ⊥) → ((w : Token) (h : Expr) (ts : List (Tail Expr)) (a : Option (Bracket (Element Expr))) → y ≡ Expr-F.New w h ts a → ⊥)
       → ((l : ℕ) (x : Expr) (os : List (Further Expr)) → y ≡ Expr-F.Binary l x os → ⊥) → ((arms : List (Arm Expr)) (x : Expr) → y ≡ Expr-F.Cond arms x → ⊥) → ((t : Pattern) (o : Token) (v : Expr) → y ≡ Expr-F.Assign t o v → ⊥)
       → ((x : Expr) (os : List (Further Expr)) → y ≡ Expr-F.Comma x os → ⊥) → None ≡ layer_value y
   others (Expr-F.«Expr::Name» t) a b c d e f g h i = absurd (a t refl)
@@ -145,7 +148,7 @@ module _ (facts : Facts) where
 
   -- of no other expression are they known
   pub at-others : (x : Expr) → ((t : Token) → out-Expr x ≡ Expr-F.«Expr::Name» t → ⊥) → ((b : Token) (y : Expr) (e : Token) → out-Expr x ≡ Expr-F.«Expr::Paren» b y e → ⊥) → ((f : Function) → out-Expr x ≡ Expr-F.«Expr::Fun» f → ⊥)
-      → ((h : Expr) (ts : List (Tail Expr)) → out-Expr x ≡ Expr-F.Chain h ts → ⊥) → ((w : Token) (h : Expr) (ts : List (Tail Expr)) (a : Option (Bracket Expr)) → out-Expr x ≡ Expr-F.New w h ts a → ⊥)
+      → ((h : Expr) (ts : List (Tail Expr)) → out-Expr x ≡ Expr-F.Chain h ts → ⊥) → ((w : Token) (h : Expr) (ts : List (Tail Expr)) (a : Option (Bracket (Element Expr))) → out-Expr x ≡ Expr-F.New w h ts a → ⊥)
       → ((l : ℕ) (y : Expr) (os : List (Further Expr)) → out-Expr x ≡ Expr-F.Binary l y os → ⊥) → ((arms : List (Arm Expr)) (y : Expr) → out-Expr x ≡ Expr-F.Cond arms y → ⊥)
       → ((t : Pattern) (o : Token) (v : Expr) → out-Expr x ≡ Expr-F.Assign t o v → ⊥) → ((y : Expr) (os : List (Further Expr)) → out-Expr x ≡ Expr-F.Comma y os → ⊥) → None ≡ value facts x
   at-others x a b c d e f g h i = others (out-Expr x) a b c d e f g h i ∙ sym (value_is x)
@@ -166,6 +169,12 @@ module _ (facts : Facts) where
 
   pub place-Paren : (begin : Token) (inner : Pattern) (end : Token) → place facts (bound.Paren begin inner end) ≡ place facts inner
   place-Paren begin inner end = place_is (bound.Paren begin inner end) ∙ ap layer_place (bound.outs-Paren begin inner end)
+
+  pub place-Array : (slots : Bracket (Option (Element Slot))) → place facts (bound.Array slots) ≡ None
+  place-Array slots = place_is (bound.Array slots) ∙ ap layer_place (bound.outs-Array slots)
+
+  pub place-Object : (properties : Bracket PatternProperty) → place facts (bound.Object properties) ≡ None
+  place-Object properties = place_is (bound.Object properties) ∙ ap layer_place (bound.outs-Object properties)
 
   -- CHAINS
 

@@ -5,27 +5,32 @@ use Rattle.std.specs.Option.{unwrap_or}
 use Rattle.std.specs.Prelude.{Contains}
 use Rattle.std.specs.Str.{bytes_eq}
 use Rattle.js_tree.specs.declared.lists.Bracket.{Bracket}
+use Rattle.js_tree.specs.declared.lists.Element.{Element}
 use Rattle.js_tree.specs.declared.lists.Further.{Further}
 use Rattle.js_tree.specs.declared.lists.Tail.TheVariants as tail
 use Rattle.js_tree.specs.declared.lists.Tail.{Tail}
 use Rattle.js_tree.specs.declared.token.Token.{Token}
 use Rattle.js_tree.specs.declared.token_kind.TokenKind.TheVariants as kind
-use Rattle.js_tree.specs.declared.tree.Expr.TheOpen.{Expr-F, Pattern-F, Function-F, Stmt-F}
+use Rattle.js_tree.specs.declared.tree.Expr.TheOpen.{Expr-F, Function-F, Key-F, Pattern-F, PatternProperty-F, Property-F, Stmt-F}
 use Rattle.js_tree.specs.declared.tree.Expr.{Expr, out-Expr}
 use Rattle.js_tree.specs.declared.tree.Function.{out-Function}
+use Rattle.js_tree.specs.declared.tree.Key.{Key, out-Key}
 use Rattle.js_tree.specs.declared.tree.Pattern.{Pattern, out-Pattern}
+use Rattle.js_tree.specs.declared.tree.PatternProperty.{out-PatternProperty}
+use Rattle.js_tree.specs.declared.tree.Property.{out-Property}
 use Rattle.js_tree.specs.declared.tree.Slot.{out-Slot}
-use Rattle.js_tree.specs.declared.tree.Stmt.{out-Stmt}
+use Rattle.js_tree.specs.declared.tree.Stmt.{Stmt, out-Stmt}
 use Rattle.js_tree.specs.declared.tree.Tree.{Tree}
-use Rattle.js_tree.specs.Folds.{ExprLayer, PatternLayer, FunctionLayer, SlotLayer, StmtLayer}
+use Rattle.js_tree.specs.Folds.{ExprLayer, FunctionLayer, KeyLayer, PatternLayer, PatternPropertyLayer, PropertyLayer, SlotLayer, StmtLayer}
 use Rattle.js_tree.specs.Line.{items}
 use Rattle.js_tree.specs.Operators.{is_binary}
-use Rattle.js_tree.specs.Parts.{Node, AnExpr, AFunction, APattern, AStmt, ASlot, ATail, ABody, folded, nodes, parts, tails_behind}
+use Rattle.js_tree.specs.Parts.{Node, AnExpr, AFunction, AKey, APattern, APatternProperty, AProperty, AStmt, ASlot, ATail, ABody, folded, nodes, parts, tails_behind}
 use Rattle.js_tree.specs.Spelling.Expressions.{expr_row}
 use Rattle.js_tree.specs.Spelling.Functions.{function_row}
 use Rattle.js_tree.specs.Spelling.Nodes.{unmarked}
-use Rattle.js_tree.specs.Spelling.Patterns.{pattern_row, slot_row}
-use Rattle.js_tree.specs.Spelling.Rows.{each_of, further_row, arm_row, bracket_row, init_row, maybe}
+use Rattle.js_tree.specs.Spelling.Patterns.{pattern_property_row, pattern_row, slot_row}
+use Rattle.js_tree.specs.Spelling.Properties.{key_row, property_row}
+use Rattle.js_tree.specs.Spelling.Rows.{arm_row, each_of, further_row, init_row, maybe, round_row}
 use Rattle.js_tree.specs.Spelling.Statements.{stmt_row}
 use Rattle.js_tree.specs.TokenKinds.{is}
 use Rattle.js_tree.specs.Tokens.{IsOfText, tokens_among, IsInText}
@@ -36,7 +41,7 @@ use Rattle.js_scopes.specs.declared.binding.Binding.TheVariants as binding
 use Rattle.js_scopes.specs.declared.binding.Binding.{Binding}
 use Rattle.js_scopes.specs.declared.binding.WrapperName.TheVariants as wrapper
 use Rattle.js_scopes.specs.Brackets.{elements, placed}
-use Rattle.js_scopes.specs.Calls.{Known, call_sites, first_string, is_require_alone, is_required, last_member, made_with, member_in, sites_of_expr}
+use Rattle.js_scopes.specs.Calls.{Known, call_sites, first_string, is_require_alone, is_required, key_name, last_member, made_with, member_in, sites_of_expr}
 use Rattle.js_scopes.specs.Functions.{is_assignment}
 use Rattle.js_scopes.specs.Scopes.{binding_of, known_of}
 use Rattle.flow_rules.specs.declared.vertex.Vertex.TheVariants.{Prop, Exports, Res, Req, Exp}
@@ -45,12 +50,12 @@ use Rattle.flow_rules.specs.Constraints.{ModuleConstraints}
 use Rattle.flow_rules.specs.Flows.{facts_of}
 use Rattle.flow_rules.specs.Requires.{call_requires}
 use Rattle.flow_rules.specs.Rules.{IsNamed, IsShort}
-use Rattle.flow_rules.specs.Values.{AND, Facts, OR, any_member_vertex, choice_mark, is_module_alone, is_numbered, joined_vertex, last_value, name_vertex, operands_value, operator_mark, place, place_in_pattern, tail_vertex, token_vertex, value, value_in, value_step, value_up_to, object_value}
+use Rattle.flow_rules.specs.Values.{AND, Facts, OR, any_member_vertex, choice_mark, is_module_alone, is_numbered, joined_vertex, key_vertex, last_value, name_vertex, operands_value, operator_mark, place, place_in_pattern, property_vertex, tail_vertex, token_vertex, value, value_in, value_step, value_up_to, object_value}
 use Rattle.flow_rules.proofs.CallRules.{IsNamedIfAny, require_there, result_there, site_there}
 use Rattle.flow_rules.proofs.NodesOfTree.{IsNodeOf, body_in, found, in_text, number_below, own_text, parts_of, requires_there, sites_there}
 use Rattle.flow_rules.proofs.Ones.{both_true, short}
-use Rattle.flow_rules.proofs.RowItems.{bracket_has, one_has, row_has, template_has}
-use Rattle.flow_rules.proofs.ShortNames.{member_short}
+use Rattle.flow_rules.proofs.RowItems.{array_has, object_has, one_has, params_has, round_has, row_has, template_has}
+use Rattle.flow_rules.proofs.ShortNames.{key_short, member_short}
 use Rattle.flow_rules.proofs.ValueLemmas.{up_to_last, front_is}
 use Rattle.flow_rules.proofs.ValueTexts.{IsShortIfAny}
 
@@ -93,9 +98,17 @@ module _ (tree : Tree) where
       by true = tt
       by false = s
 
+  property_at : (o : Option (List ℕ)) → IsShortIfAny o → IsNamed lists (property_vertex o)
+  property_at None s = tt
+  property_at (Some name) s = s
+
+  -- the property with a key
+  pub key_there : (k : Key) → In (AKey k) → IsNamed lists (key_vertex k)
+  key_there k i = property_at (key_name (out-Key k)) (key_short k (in_text tree (AKey k) i))
+
   -- CALLS
 
-  module _ (head : Expr) (before : List (Tail Expr)) (a : Bracket Expr) (i : In (ATail head before (tail.Call a))) where
+  module _ (head : Expr) (before : List (Tail Expr)) (a : Bracket (Element Expr)) (i : In (ATail head before (tail.Call a))) where
     abbrev alone : Bool
     alone = is_require_alone known head before
 
@@ -182,6 +195,8 @@ module _ (tree : Tree) where
   pattern_valued (Pattern-F.«Pattern::Name» t) v s = token_there t s.0
   pattern_valued (Pattern-F.Member chain) v s = v.0
   pattern_valued (Pattern-F.«Pattern::Paren» begin inner end) v s = v.0
+  pattern_valued (Pattern-F.«Pattern::Array» slots) v s = tt
+  pattern_valued (Pattern-F.«Pattern::Object» properties) v s = tt
 
   abbrev Valued : Node → Type 0
   Valued n = In n → Any (folded (value_step facts) n)
@@ -197,6 +212,9 @@ module _ (tree : Tree) where
       by (AnExpr x) v i = let s = sites_there tree (AnExpr x) i in expr_valued (out-Expr x) s.0 s.1 v (parts_of tree (AnExpr x) i) (own_text tree (AnExpr x) i)
       by (AFunction f) v i = number_below tree f i
       by (APattern p) v i = pattern_valued (out-Pattern p) v (own_text tree (APattern p) i)
+      by (AKey k) v i = tt
+      by (APatternProperty p) v i = tt
+      by (AProperty p) v i = tt
       by (AStmt x) v i = tt
       by (ASlot x) v i = tt
       by (ATail head before t) v i = tt
@@ -228,11 +246,13 @@ module _ (tree : Tree) where
   expr_has (Expr-F.Chain head tails) i = let v = value_there head i.0 in (tt, tails_there head [] tails [] i.1 v v tt)
   expr_has (Expr-F.New word head tails args) i =
       let v = value_there head i.0 in
-      (tt, tails_there head [] tails (maybe (bracket_row unmarked nodes.expr) args []) i.1 v v (one_has Behind (bracket_row unmarked nodes.expr) (λ b more r. bracket_has Behind AnExpr (λ x. tt) b more r) args [] tt))
+      (tt, tails_there head [] tails (maybe (round_row unmarked nodes.expr) args []) i.1 v v (one_has Behind (round_row unmarked nodes.expr) (λ b more r. round_has Behind AnExpr (λ x. tt) b more r) args [] tt))
   expr_has (Expr-F.Template t) i = template_has Behind (λ x. tt) t.parts [] tt
   expr_has (Expr-F.Binary level first others) i = (tt, row_has Behind (further_row unmarked nodes.expr (is_binary level)) (λ x more r. (tt, r)) others [] tt)
   expr_has (Expr-F.Cond arms last) i = row_has Behind (arm_row unmarked nodes.expr) (λ x more r. (tt, (tt, r))) arms (AnExpr last ∷ []) (tt, tt)
   expr_has (Expr-F.Comma first others) i = (tt, row_has Behind (further_row unmarked nodes.expr (is kind.Comma)) (λ x more r. (tt, r)) others [] tt)
+  expr_has (Expr-F.«Expr::Array» items) i = array_has Behind AnExpr (λ x. tt) items [] tt
+  expr_has (Expr-F.«Expr::Object» properties) i = object_has Behind AProperty (λ x. tt) properties [] tt
   expr_has (Expr-F.«Expr::Name» t) i = tt
   expr_has (Expr-F.This t) i = tt
   expr_has (Expr-F.Literal t) i = tt
@@ -245,13 +265,34 @@ module _ (tree : Tree) where
   expr_has (Expr-F.Assign target op from) i = (tt, (tt, tt))
 
   -- no other node has
+  statements_have : (body : List Stmt) → AllByRecursion Behind (each_of nodes.stmt body [])
+  statements_have body = row_has Behind nodes.stmt (λ x more r. (tt, r)) body [] tt
+
   function_has : (l : FunctionLayer) → AllByRecursion Behind (function_row nodes l [])
-  function_has (Function-F.Keyword word name params b) = bracket_has Behind ASlot (λ x. tt) params (each_of nodes.stmt b.body []) (row_has Behind nodes.stmt (λ x more r. (tt, r)) b.body [] tt)
+  function_has (Function-F.Keyword word name ps b) = round_has Behind ASlot (λ x. tt) ps (each_of nodes.stmt b.body []) (statements_have b.body)
+  function_has (Function-F.Arrow ps arrow x) = params_has Behind ASlot (λ x. tt) ps (AnExpr x ∷ []) (tt, tt)
+  function_has (Function-F.ArrowBlock ps arrow b) = params_has Behind ASlot (λ x. tt) ps (each_of nodes.stmt b.body []) (statements_have b.body)
+
+  key_has : (l : KeyLayer) → AllByRecursion Behind (key_row nodes l [])
+  key_has (Key-F.Fixed t) = tt
+  key_has (Key-F.Computed begin x end) = (tt, tt)
+
+  property_has : (l : PropertyLayer) → AllByRecursion Behind (property_row nodes l [])
+  property_has (Property-F.Pair key colon x) = (tt, (tt, tt))
+  property_has (Property-F.Shorthand x) = (tt, tt)
+  property_has (Property-F.Spread dots x) = (tt, tt)
+
+  pattern_property_has : (l : PatternPropertyLayer) → AllByRecursion Behind (pattern_property_row nodes l [])
+  pattern_property_has (PatternProperty-F.Keyed key colon s) = (tt, (tt, tt))
+  pattern_property_has (PatternProperty-F.Named s) = (tt, tt)
+  pattern_property_has (PatternProperty-F.Rest dots s) = (tt, tt)
 
   pattern_has : (l : PatternLayer) → AllByRecursion Behind (pattern_row nodes l [])
   pattern_has (Pattern-F.«Pattern::Name» t) = tt
   pattern_has (Pattern-F.Member chain) = (tt, tt)
   pattern_has (Pattern-F.«Pattern::Paren» begin inner end) = (tt, tt)
+  pattern_has (Pattern-F.«Pattern::Array» slots) = array_has Behind ASlot (λ x. tt) slots [] tt
+  pattern_has (Pattern-F.«Pattern::Object» properties) = object_has Behind APatternProperty (λ x. tt) properties [] tt
 
   stmt_has : (l : StmtLayer) → AllByRecursion Behind (stmt_row nodes l [])
   stmt_has (Stmt-F.Vars word first others semi) = (tt, row_has Behind (further_row unmarked nodes.slot (is kind.Comma)) (λ x more r. (tt, r)) others [] tt)
@@ -265,17 +306,20 @@ module _ (tree : Tree) where
   tail_has : (head : Expr) (before : List (Tail Expr)) (t : Tail Expr) → AllByRecursion Behind (parts (ATail head before t))
   tail_has head before (tail.Member dot name) = tt
   tail_has head before (tail.Index begin x end) = (tt, tt)
-  tail_has head before (tail.Call a) = bracket_has Behind AnExpr (λ x. tt) a [] tt
+  tail_has head before (tail.Call a) = round_has Behind AnExpr (λ x. tt) a [] tt
   tail_has head before (tail.Template t) = template_has Behind (λ x. tt) t.parts [] tt
 
   parts_have : (n : Node) → In n → AllByRecursion Behind (parts n)
   parts_have (AnExpr x) i = expr_has (out-Expr x) (parts_of tree (AnExpr x) i)
   parts_have (AFunction f) i = function_has (out-Function f)
+  parts_have (AKey x) i = key_has (out-Key x)
   parts_have (APattern x) i = pattern_has (out-Pattern x)
+  parts_have (APatternProperty x) i = pattern_property_has (out-PatternProperty x)
+  parts_have (AProperty x) i = property_has (out-Property x)
   parts_have (AStmt x) i = stmt_has (out-Stmt x)
   parts_have (ASlot x) i = slot_has (out-Slot x)
   parts_have (ATail head before t) i = tail_has head before t
-  parts_have (ABody b) i = row_has Behind nodes.stmt (λ x more r. (tt, r)) b [] tt
+  parts_have (ABody b) i = statements_have b
 
   -- the node is one of the tree, and so stands what is in front of a tail
   abbrev pub StandsIn : Node → Type 0

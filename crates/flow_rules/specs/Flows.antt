@@ -11,34 +11,32 @@ use Rattle.js_tree.specs.declared.tree.Expr.{Expr, out-Expr}
 use Rattle.js_tree.specs.declared.tree.Expr.TheOpen.{Expr-F, Pattern-F, Stmt-F}
 use Rattle.js_tree.specs.declared.tree.Function.{Function, out-Function}
 use Rattle.js_tree.specs.declared.tree.Pattern.{Pattern, out-Pattern}
+use Rattle.js_tree.specs.declared.tree.PatternProperty.{out-PatternProperty}
+use Rattle.js_tree.specs.declared.tree.Property.{out-Property}
 use Rattle.js_tree.specs.declared.tree.Slot.{Slot, out-Slot}
 use Rattle.js_tree.specs.declared.tree.Stmt.{out-Stmt}
 use Rattle.js_tree.specs.declared.tree.Tree.{Tree}
-use Rattle.js_tree.specs.Folds.{ExprLayer, PatternLayer, SlotLayer, StmtLayer}
-use Rattle.js_tree.specs.Parts.{Node, AnExpr, AFunction, APattern, AStmt, ASlot, ATail, ABody, gathered}
+use Rattle.js_tree.specs.Folds.{ExprLayer, FunctionLayer, PatternLayer, SlotLayer, StmtLayer}
+use Rattle.js_tree.specs.Parts.{Node, AnExpr, AFunction, AKey, APattern, APatternProperty, AProperty, AStmt, ASlot, ATail, ABody, gathered}
 use Rattle.jam_base.specs.Ascending.{ascending}
 use Rattle.js_scopes.specs.Calls.{Known, holder_in, made_with}
-use Rattle.js_scopes.specs.Functions.{is_assignment, name_in, params_in, start_of}
+use Rattle.js_scopes.specs.Functions.{arrow_value, is_assignment, name_in, params_in, rest_in, start_of}
 use Rattle.js_scopes.specs.Scopes.{functions_of, known_of, sites_of}
 use Rattle.flow_rules.specs.declared.module.Flow.{Flow}
 use Rattle.flow_rules.specs.declared.module.ModuleNote.{ModuleNote}
 use Rattle.flow_rules.specs.declared.module.Require.{Require}
 use Rattle.flow_rules.specs.declared.notes.Standing.TheVariants as standing
-use Rattle.flow_rules.specs.declared.vertex.Vertex.{Vertex}
 use Rattle.flow_rules.specs.declared.vertex.Vertex.TheVariants as vertex
 use Rattle.flow_rules.specs.Arguments.{arguments_in, arguments_of_name}
 use Rattle.flow_rules.specs.Calls.{flow, made_flows, tail_flows}
 use Rattle.flow_rules.specs.Constraints.{ModuleConstraints}
+use Rattle.flow_rules.specs.Items.{array_flows, elements_flows, into, into_slot, pattern_property_flows, property_flows}
 use Rattle.flow_rules.specs.Numbered.{numbered_of, place_in}
 use Rattle.flow_rules.specs.Requires.{notes_in, requires_in}
-use Rattle.flow_rules.specs.Values.{Facts, OR, choice_mark, joined_vertex, operator_mark, place, token_vertex, value}
+use Rattle.flow_rules.specs.Values.{Facts, OR, choice_mark, joined_vertex, operator_mark, token_vertex, value}
 use Rattle.flow_rules.specs.Vertices.{flow_order}
 
--- PATTERNS AND NAMES
-
--- values that come to a pattern
-abbrev pub into : Facts → Pattern → Option Vertex → List Flow
-into facts p from = flow from (place facts p)
+-- NAMES
 
 -- a name that means the arguments of a function: what that takes past its parameters is an element
 abbrev pub rest_flows : List ℕ → List Flow
@@ -66,19 +64,24 @@ operands_flows facts level first others =
 abbrev pub choice_flows : Facts → List (Arm Expr) → Expr → List Flow
 choice_flows facts arms last = flat_map (λ x. joined_flow facts (choice_mark arms) x.value) arms ++ joined_flow facts (choice_mark arms) last
 
--- Name: its flows. New: those of its call. Binary with `||`: its operands come to it. Cond: so does the value of each arm, and the last. Assign: from
--- its right side to its target
+-- Name: its flows. Array: those of its items. New: those of its call. Binary with `||`: its operands come to it. Cond: so does the value of each arm,
+-- and the last. Assign: from its right side to its target
 abbrev pub expr_flows : Facts → ExprLayer → List Flow
 expr_flows facts (Expr-F.«Expr::Name» t) = name_flows facts.known t
+expr_flows facts (Expr-F.«Expr::Array» items) = array_flows facts items
 expr_flows facts (Expr-F.New word head tails args) = made_flows facts head tails word.start (made_with args)
 expr_flows facts (Expr-F.Binary level first others) = operands_flows facts level first others
 expr_flows facts (Expr-F.Cond arms last) = choice_flows facts arms last
 expr_flows facts (Expr-F.Assign target op from) = assigned_flows facts target op from
 expr_flows facts _ = []
 
-abbrev pub pattern_flows : Known → PatternLayer → List Flow
-pattern_flows known (Pattern-F.«Pattern::Name» t) = name_flows known t
-pattern_flows known _ = []
+-- PATTERNS
+
+-- Name: its flows. Array: those of its slots
+abbrev pub pattern_flows : Facts → PatternLayer → List Flow
+pattern_flows facts (Pattern-F.«Pattern::Name» t) = name_flows facts.known t
+pattern_flows facts (Pattern-F.«Pattern::Array» slots) = elements_flows facts slots
+pattern_flows facts _ = []
 
 -- FUNCTIONS
 
@@ -90,7 +93,7 @@ named_flows known number (Some t) = flow (Some (vertex.Lit number)) (token_verte
 -- what a parameter takes comes to its pattern, and is an element where the function's arguments are used
 abbrev pub param_flows : Facts → ℕ → ℕ → Slot → List Flow
 param_flows facts number i s =
-    into facts (out-Slot s).target (Some (vertex.Param number i))
+    into_slot facts s (Some (vertex.Param number i))
     ++ (if facts.uses_arguments number then flow (Some (vertex.Param number i)) (Some vertex.Elem) else [])
 
 -- the same of all parameters, from place i on
@@ -98,10 +101,26 @@ abbrev pub params_flows : Facts → ℕ → ℕ → List Slot → List Flow
 params_flows facts number i [] = []
 params_flows facts number i (s ∷ ss) = param_flows facts number i s ++ params_flows facts number (i + 1) ss
 
+-- what a rest parameter takes are elements; it is an array of them, whose values stand nowhere
+abbrev pub rest_param_flows : ℕ → Option Slot → List Flow
+rest_param_flows number None = []
+rest_param_flows number (Some s) = flow (Some (vertex.Rest number)) (Some vertex.Elem)
+
+-- what is given comes to what the function with this number returns
+abbrev pub returned_flows : Facts → ℕ → Option Expr → List Flow
+returned_flows facts number None = []
+returned_flows facts number (Some x) = flow (value facts x) (Some (vertex.Ret number))
+
+-- a function with this number: its name, its parameters, its rest, and the value that an arrow without braces gives
+abbrev pub flows_of_function : Facts → ℕ → FunctionLayer → List Flow
+flows_of_function facts number l =
+    named_flows facts.known number (name_in l)
+    ++ params_flows facts number 0 (params_in l)
+    ++ rest_param_flows number (rest_in l)
+    ++ returned_flows facts number (arrow_value l)
+
 abbrev pub function_flows : Facts → Function → List Flow
-function_flows facts f =
-    named_flows facts.known (facts.known.number (start_of f)) (name_in (out-Function f))
-    ++ params_flows facts (facts.known.number (start_of f)) 0 (params_in (out-Function f))
+function_flows facts f = flows_of_function facts (facts.known.number (start_of f)) (out-Function f)
 
 -- SLOTS AND STATEMENTS
 
@@ -113,11 +132,7 @@ given_flows facts target (Some x) = into facts target (value facts x.value)
 abbrev pub slot_flows : Facts → SlotLayer → List Flow
 slot_flows facts slot = given_flows facts slot.target slot.init
 
--- Return: what is given comes to what the function with this number returns
-abbrev pub returned_flows : Facts → ℕ → Option Expr → List Flow
-returned_flows facts holder None = []
-returned_flows facts holder (Some x) = flow (value facts x) (Some (vertex.Ret holder))
-
+-- Return: what is given, in the function with this number
 abbrev pub stmt_flows : Facts → ℕ → StmtLayer → List Flow
 stmt_flows facts holder (Stmt-F.Return word value semi) = returned_flows facts holder value
 stmt_flows facts holder _ = []
@@ -127,7 +142,10 @@ stmt_flows facts holder _ = []
 abbrev pub own_flows : Facts → Node → ℕ → List Flow
 own_flows facts (AnExpr x) holder = expr_flows facts (out-Expr x)
 own_flows facts (AFunction f) holder = function_flows facts f
-own_flows facts (APattern p) holder = pattern_flows facts.known (out-Pattern p)
+own_flows facts (AKey k) holder = []
+own_flows facts (APattern p) holder = pattern_flows facts (out-Pattern p)
+own_flows facts (APatternProperty p) holder = pattern_property_flows facts (out-PatternProperty p)
+own_flows facts (AProperty p) holder = property_flows facts (out-Property p)
 own_flows facts (AStmt x) holder = stmt_flows facts holder (out-Stmt x)
 own_flows facts (ASlot s) holder = slot_flows facts (out-Slot s)
 own_flows facts (ATail head before t) holder = tail_flows facts head before t

@@ -3,6 +3,7 @@ pub mod AtHand
 pub mod Calls
 pub mod Constraints
 pub mod Flows
+pub mod Items
 pub mod Numbered
 pub mod Places
 pub mod Requires

@@ -9,7 +9,7 @@ use Rattle.js_tree.specs.declared.tree.Expr.TheOpen.{Expr-F, Pattern-F, Stmt-F}
 use Rattle.js_tree.specs.declared.tree.Pattern.{out-Pattern}
 use Rattle.js_tree.specs.declared.tree.Stmt.{out-Stmt}
 use Rattle.js_tree.specs.Folds.{ExprLayer, PatternLayer, StmtLayer}
-use Rattle.js_tree.specs.Parts.{Node, AnExpr, AFunction, APattern, AStmt, ASlot, ATail, ABody, gathered}
+use Rattle.js_tree.specs.Parts.{Node, AnExpr, AFunction, AKey, APattern, APatternProperty, AProperty, AStmt, ASlot, ATail, ABody, gathered}
 use Rattle.js_scopes.specs.Brackets.{elements}
 use Rattle.js_scopes.specs.Calls.{Known, first_string, holder_in, is_require, is_require_alone}
 use Rattle.flow_rules.specs.declared.module.ModuleNote.{ModuleNote}
@@ -66,11 +66,15 @@ abbrev pub standing_in_stmt : StmtLayer → Standing
 standing_in_stmt (Stmt-F.Vars word first others semi) = standing.Declared
 standing_in_stmt _ = standing.Value
 
--- how the parts of a node stand: the parameters of a function are declared, and those of a slot and of a pattern stand as these themselves
+-- how the parts of a node stand: the parameters of a function are declared, and those of a slot, of a pattern and of a property in it stand as these
+-- themselves
 abbrev pub standing_in : Node → Standing → Standing
 standing_in (AnExpr x) s = standing_in_expr (out-Expr x)
 standing_in (AFunction f) s = standing.Declared
+standing_in (AKey x) s = standing.Value
 standing_in (APattern x) s = s
+standing_in (APatternProperty x) s = s
+standing_in (AProperty x) s = standing.Value
 standing_in (AStmt x) s = standing_in_stmt (out-Stmt x)
 standing_in (ASlot x) s = s
 standing_in (ATail head before t) s = standing.Value

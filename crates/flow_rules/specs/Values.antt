@@ -10,11 +10,12 @@ use Rattle.js_tree.specs.declared.token.Token.{Token}
 use Rattle.js_tree.specs.declared.tree.Expr.{Expr, out-Expr}
 use Rattle.js_tree.specs.declared.tree.Expr.TheOpen.{Expr-F, Pattern-F}
 use Rattle.js_tree.specs.declared.tree.Function.{Function}
+use Rattle.js_tree.specs.declared.tree.Key.{Key, out-Key}
 use Rattle.js_tree.specs.declared.tree.Pattern.{Pattern, out-Pattern}
 use Rattle.js_tree.specs.Folds.{ExprLayer, PatternLayer}
 use Rattle.js_tree.specs.Parts.{Node, AnExpr, AFunction, APattern, folded}
 use Rattle.js_scopes.specs.Brackets.{elements, last_of}
-use Rattle.js_scopes.specs.Calls.{Known, is_reflected, is_required, last_member, member_in}
+use Rattle.js_scopes.specs.Calls.{Known, is_reflected, is_required, key_name, last_member, member_in}
 use Rattle.js_scopes.specs.Functions.{is_assignment, start_of}
 use Rattle.js_scopes.specs.declared.binding.Binding.{Binding}
 use Rattle.js_scopes.specs.declared.binding.Binding.TheVariants as binding
@@ -69,6 +70,17 @@ member_vertex of_module name = if of_module && bytes_eq name (codes "exports") t
 abbrev pub any_member_vertex : Bool → Option (List ℕ) → Vertex
 any_member_vertex of_module None = vertex.Elem
 any_member_vertex of_module (Some name) = member_vertex of_module name
+
+-- PROPERTIES
+
+-- where those of a property of this name or none stand: every property without a name is an element
+abbrev pub property_vertex : Option (List ℕ) → Vertex
+property_vertex None = vertex.Elem
+property_vertex (Some name) = vertex.Prop name
+
+-- the same of the property with this key
+abbrev pub key_vertex : Key → Vertex
+key_vertex key = property_vertex (key_name (out-Key key))
 
 -- CALLS
 
@@ -159,10 +171,13 @@ value_in facts (Expr-F.Assign target op value) values = assigned_value op (last_
 value_in facts (Expr-F.Comma first others) values = last_value values
 value_in facts _ values = None
 
--- where those of a pattern stand, to which values come. Name: at its vertex. Member, Paren: where those of what is in it stand
+-- where those of a pattern stand, to which values come. Name: at its vertex. Member, Paren: where those of what is in it stand. Those
+-- of the pattern of an array or an object stand at no one vertex
 abbrev pub place_in_pattern : Facts → PatternLayer → List (Option Vertex) → Option Vertex
 place_in_pattern facts (Pattern-F.«Pattern::Name» t) values = token_vertex facts.known t
-place_in_pattern facts _ values = last_value values
+place_in_pattern facts (Pattern-F.Member chain) values = last_value values
+place_in_pattern facts (Pattern-F.«Pattern::Paren» begin inner end) values = last_value values
+place_in_pattern facts _ values = None
 
 -- where the values of a node stand, by where those of its parts do
 abbrev pub value_step : Facts → Node → List (Option Vertex) → Option Vertex

@@ -26,7 +26,7 @@ pub(crate) enum Argument {
 pub(crate) fn arguments_of(
     alloc: Global,
     facts: &Facts<'_>,
-    items: &Bracket<Boxed<Expr>>,
+    items: &Bracket<Element<Boxed<Expr>>>,
 ) -> Result<Vec<Argument>, OutOfMemory>
     ensures { IfOk result (λ made. made.items ≡ map (calls.argument_of (facts_in facts.now)) (elements items.now)) }
 {
@@ -86,7 +86,7 @@ fn argument_of(
 pub(crate) fn arguments_made_with(
     alloc: Global,
     facts: &Facts<'_>,
-    args: &Option<Boxed<Bracket<Boxed<Expr>>>>,
+    args: &Option<Boxed<Bracket<Element<Boxed<Expr>>>>>,
 ) -> Result<Vec<Argument>, OutOfMemory>
     ensures { IfOk result (λ made. made.items ≡ map (calls.argument_of (facts_in facts.now)) (made_with args.now)) }
 {

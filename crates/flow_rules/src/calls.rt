@@ -19,7 +19,7 @@ use crate::values::{object_value, value_up_to};
 use crate::{Flow, Vertex};
 use jam_base::OutOfMemory;
 use js_scopes::last_member;
-use js_tree::{Bracket, Expr, Tail, Template, Token};
+use js_tree::{Bracket, Element, Expr, Tail, Template, Token};
 use sqlite_items::Boxed;
 use std::alloc::Global;
 
@@ -53,7 +53,7 @@ fn push_unrequired(
     facts: &Facts<'_>,
     head: &Expr,
     before: &[Tail<Boxed<Expr>>],
-    arguments: &Bracket<Boxed<Expr>>,
+    arguments: &Bracket<Element<Boxed<Expr>>>,
     out: &mut Vec<Flow>,
 ) -> Result<(), OutOfMemory>
     requires { length (elements arguments.now) < 4294967296 }
@@ -111,7 +111,7 @@ pub(crate) fn push_made(
     word: &Token,
     head: &Expr,
     tails: &[Tail<Boxed<Expr>>],
-    args: &Option<Boxed<Bracket<Boxed<Expr>>>>,
+    args: &Option<Boxed<Bracket<Element<Boxed<Expr>>>>>,
     out: &mut Vec<Flow>,
 ) -> Result<(), OutOfMemory>
     requires { length (callees.made_with args.now) < 4294967296 }

@@ -1,27 +1,28 @@
 //! The flows of a module.
-ghost use Rattle.std.specs.Prelude.{◌≡◌, ◌<◌, ◌++◌, [], Some, if◌then◌else◌, length, map, OnOk};
-ghost use Rattle.std.specs.Option.{option_map};
+ghost use Rattle.std.specs.Prelude.{◌≡◌, ◌++◌, OnOk};
 ghost use Rattle.js_tree.specs.declared.tree.Expr.{out-Expr};
 ghost use Rattle.js_tree.specs.declared.tree.Pattern.{out-Pattern};
 ghost use Rattle.js_tree.specs.declared.tree.Slot.{out-Slot};
 ghost use Rattle.js_tree.specs.declared.tree.Stmt.{out-Stmt};
-ghost use Rattle.js_tree.specs.Parts.{AFunction, AnExpr};
+ghost use Rattle.js_tree.specs.Parts.{AnExpr};
 ghost use Rattle.js_tree.specs.Tokens.{IsInText};
 ghost use Rattle.js_scopes.specs.AtHand.{known_in};
 ghost use Rattle.flow_rules.specs.Arguments.{arguments_meant};
 ghost use Rattle.flow_rules.specs.AtHand.{facts_in};
-ghost use Rattle.flow_rules.specs.declared.vertex.Vertex.TheVariants as vertex;
-ghost use Rattle.flow_rules.specs.Calls.{flow};
 ghost use Rattle.flow_rules.specs.Flows as seen;
 
 use crate::calls::{push_made, push_tail_flows};
-use crate::facts::{Facts, token_vertex};
+use crate::facts::Facts;
 use crate::flow::{push_flow, push_flow_into};
-use crate::values::{OR, choice_mark, joined_vertex, operator_mark, place_of, value_of};
+use crate::function_flows::{push_function_flows, push_result};
+use crate::item_flows::{
+    push_array, push_array_pattern, push_into, push_pattern_property, push_property,
+};
+use crate::values::{OR, choice_mark, joined_vertex, operator_mark, value_of};
 use crate::{Flow, Vertex};
 use jam_base::OutOfMemory;
-use js_scopes::{Binding, Known, is_assignment, own_name, params_of, start_of};
-use js_tree::{Arm, Expr, Function, Further, Gather, Node, Pattern, Slot, Stmt, Token};
+use js_scopes::{Binding, Known, is_assignment};
+use js_tree::{Arm, Expr, Further, Gather, Node, Pattern, Slot, Stmt, Token};
 use sqlite_items::Boxed;
 use std::alloc::Global;
 
@@ -64,7 +65,12 @@ impl<'t, 'm> Gather<'t> for Flows<'m> {
         match node {
             Node::Expr(value) => push_expr_flows(alloc, &self.facts, value, out),
             Node::Function(function) => push_function_flows(alloc, &self.facts, function, out),
-            Node::Pattern(pattern) => push_pattern_flows(alloc, self.facts.known, pattern, out),
+            Node::Key(_) => Ok(()),
+            Node::Pattern(pattern) => push_pattern_flows(alloc, &self.facts, pattern, out),
+            Node::PatternProperty(property) => {
+                push_pattern_property(alloc, &self.facts, property, out)
+            }
+            Node::Property(property) => push_property(alloc, &self.facts, property, out),
             Node::Stmt(statement) => push_stmt_flows(alloc, &self.facts, statement, around, out),
             Node::Slot(slot) => push_slot_flows(alloc, &self.facts, slot, out),
             Node::Tail { head, before, tail } => {
@@ -90,6 +96,7 @@ fn push_expr_flows(
 {
     match value {
         Expr::Name(token) => push_name_flows(alloc, facts.known, token, out),
+        Expr::Array { items } => push_array(alloc, facts, items.get(), out),
         Expr::New {
             word,
             head,
@@ -180,30 +187,17 @@ fn push_assigned(
     push_into(alloc, facts, target, &from, out)
 }
 
-// Values that come to a pattern.
-fn push_into(
-    alloc: Global,
-    facts: &Facts<'_>,
-    target: &Pattern,
-    from: &Option<Vertex>,
-    out: &mut Vec<Flow>,
-) -> Result<(), OutOfMemory>
-    ensures { OnOk result (out.new.items ≡ out.old.items ++ seen.into (facts_in facts.now) target.now from.now) }
-{
-    let to = place_of(alloc, facts, target)?;
-    push_flow_into(alloc, from, to, out)
-}
-
 fn push_pattern_flows(
     alloc: Global,
-    known: &Known<'_>,
+    facts: &Facts<'_>,
     pattern: &Pattern,
     out: &mut Vec<Flow>,
 ) -> Result<(), OutOfMemory>
-    ensures { OnOk result (out.new.items ≡ out.old.items ++ seen.pattern_flows (known_in known.now) (out-Pattern pattern.now)) }
+    ensures { OnOk result (out.new.items ≡ out.old.items ++ seen.pattern_flows (facts_in facts.now) (out-Pattern pattern.now)) }
 {
     match pattern {
-        Pattern::Name(token) => push_name_flows(alloc, known, token, out),
+        Pattern::Name(token) => push_name_flows(alloc, facts.known, token, out),
+        Pattern::Array { slots } => push_array_pattern(alloc, facts, slots.get(), out),
         _ => Ok(()),
     }
 }
@@ -230,96 +224,6 @@ fn push_rest(alloc: Global, binding: Binding, out: &mut Vec<Flow>) -> Result<(),
         }
         _ => Ok(()),
     }
-}
-
-// A function comes to its own name, and what its parameters take to their patterns.
-fn push_function_flows(
-    alloc: Global,
-    facts: &Facts<'_>,
-    function: &Function,
-    out: &mut Vec<Flow>,
-) -> Result<(), OutOfMemory>
-    requires { IsInText (AFunction function.now) }
-    ensures { OnOk result (out.new.items ≡ out.old.items ++ seen.function_flows (facts_in facts.now) function.now) }
-{
-    let number = facts.known.number(start_of(function));
-    push_named(alloc, facts.known, number, own_name(function), out)?;
-    let params = params_of(alloc, function)?;
-    push_params(alloc, facts, number, params.as_slice(), out)
-}
-
-// The function with this number comes to the name, where there is one.
-fn push_named(
-    alloc: Global,
-    known: &Known<'_>,
-    number: u32,
-    name: Option<&Token>,
-    out: &mut Vec<Flow>,
-) -> Result<(), OutOfMemory>
-    ensures { OnOk result (out.new.items ≡ out.old.items ++ seen.named_flows (known_in known.now) number (option_map (λ t. t.now) name.entry)) }
-{
-    match name {
-        None => Ok(()),
-        Some(token) => {
-            let function = Some(Vertex::Lit { function: number });
-            let to = token_vertex(alloc, known, token)?;
-            push_flow_into(alloc, &function, to, out)
-        }
-    }
-}
-
-// What the parameters of the function with this number take comes to their patterns.
-fn push_params(
-    alloc: Global,
-    facts: &Facts<'_>,
-    number: u32,
-    params: &[&Slot],
-    out: &mut Vec<Flow>,
-) -> Result<(), OutOfMemory>
-    requires { length params.now < 4294967296 }
-    ensures { OnOk result (out.new.items ≡ out.old.items ++ seen.params_flows (facts_in facts.now) number 0 (map (λ s. s.now) params.now)) }
-{
-    let mut index: u32 = 0;
-    for param in params {
-        push_param(alloc, facts, number, index, param, out)?;
-        index += 1;
-    }
-    Ok(())
-}
-
-// What one takes comes to its pattern, and is an element where the function's `arguments` are used.
-fn push_param(
-    alloc: Global,
-    facts: &Facts<'_>,
-    number: u32,
-    index: u32,
-    param: &Slot,
-    out: &mut Vec<Flow>,
-) -> Result<(), OutOfMemory>
-    ensures { OnOk result (out.new.items ≡ out.old.items ++ seen.param_flows (facts_in facts.now) number index param.now) }
-{
-    let taken = Some(Vertex::Param {
-        function: number,
-        index,
-    });
-    push_into(alloc, facts, &param.target, &taken, out)?;
-    push_if_used(alloc, facts, number, &taken, out)
-}
-
-// Where the function's `arguments` are used, what is taken is an element.
-fn push_if_used(
-    alloc: Global,
-    facts: &Facts<'_>,
-    number: u32,
-    taken: &Option<Vertex>,
-    out: &mut Vec<Flow>,
-) -> Result<(), OutOfMemory>
-    ensures { OnOk result (out.new.items ≡ out.old.items ++ (if (facts_in facts.now).uses_arguments number then flow taken.now (Some vertex.Elem) else [])) }
-{
-    if facts.arguments.has(number) {
-        return push_flow(alloc, taken, Vertex::Elem, out);
-    }
-    Ok(())
 }
 
 // What a slot is given comes to its pattern.
@@ -359,7 +263,6 @@ fn push_stmt_flows(
     }
 }
 
-// What is given comes to what the function with this number returns.
 fn push_returned(
     alloc: Global,
     facts: &Facts<'_>,
@@ -371,9 +274,6 @@ fn push_returned(
 {
     match value {
         None => Ok(()),
-        Some(value) => {
-            let from = value_of(alloc, facts, value.get())?;
-            push_flow(alloc, &from, Vertex::Ret { function: holder }, out)
-        }
+        Some(value) => push_result(alloc, facts, value.get(), holder, out),
     }
 }

@@ -12,7 +12,7 @@ ghost use Rattle.flow_rules.specs.Requires as seen;
 use crate::{ModuleNote, NoteKind};
 use jam_base::OutOfMemory;
 use js_scopes::{Known, first_string};
-use js_tree::{Bracket, Expr, Gather, Node, Pattern, Stmt, Tail, Token};
+use js_tree::{Bracket, Element, Expr, Gather, Node, Pattern, Stmt, Tail, Token};
 use sqlite_items::Boxed;
 use std::alloc::Global;
 
@@ -86,7 +86,10 @@ fn standing_in(node: Node<'_>, around: Standing) -> Standing
     match node {
         Node::Expr(value) => standing_in_expr(value),
         Node::Function(_) => Standing::Declared,
+        Node::Key(_) => Standing::Value,
         Node::Pattern(_) => around,
+        Node::PatternProperty(_) => around,
+        Node::Property(_) => Standing::Value,
         Node::Stmt(statement) => standing_in_stmt(statement),
         Node::Slot(_) => around,
         Node::Tail {
@@ -278,7 +281,7 @@ fn push_tail_notes(
 fn push_call_note(
     alloc: Global,
     required: bool,
-    arguments: &Bracket<Boxed<Expr>>,
+    arguments: &Bracket<Element<Boxed<Expr>>>,
     out: &mut Vec<ModuleNote>,
 ) -> Result<(), OutOfMemory>
     ensures { OnOk result (out.new.items ≡ out.old.items ++ (if required then seen.call_notes arguments.now.open.start (calls.first_string (elements arguments.now)) else [])) }

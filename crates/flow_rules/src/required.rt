@@ -8,7 +8,7 @@ ghost use Rattle.flow_rules.specs.Requires as seen;
 use crate::Require;
 use jam_base::OutOfMemory;
 use js_scopes::{Known, first_string};
-use js_tree::{Bracket, Expr, Gather, Node, Tail};
+use js_tree::{Bracket, Element, Expr, Gather, Node, Tail};
 use sqlite_items::Boxed;
 use std::alloc::Global;
 
@@ -91,7 +91,7 @@ fn push_tail_requires(
 fn push_call_require(
     alloc: Global,
     required: bool,
-    arguments: &Bracket<Boxed<Expr>>,
+    arguments: &Bracket<Element<Boxed<Expr>>>,
     holder: u32,
     out: &mut Vec<Require>,
 ) -> Result<(), OutOfMemory>

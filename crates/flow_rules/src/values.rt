@@ -11,9 +11,10 @@ use crate::Vertex;
 use crate::facts::{Facts, token_vertex};
 use jam_base::{OutOfMemory, Text};
 use js_scopes::{
-    Binding, Known, WrapperName, is_assignment, is_reflected, last_member, member_in, start_of,
+    Binding, Known, WrapperName, is_assignment, is_reflected, key_name, last_member, member_in,
+    start_of,
 };
-use js_tree::{Arm, Bracket, Expr, Function, Further, Pattern, Tail, Token};
+use js_tree::{Arm, Bracket, Element, Expr, Function, Further, Key, Pattern, Tail, Token};
 use sqlite_items::Boxed;
 use std::alloc::Global;
 
@@ -167,6 +168,8 @@ pub(crate) fn place_of(
             inner,
             close: _,
         } => place_of(alloc, facts, inner.get()),
+        Pattern::Array { slots: _ } => Ok(None),
+        Pattern::Object { properties: _ } => Ok(None),
     }
 }
 
@@ -272,13 +275,31 @@ fn member_vertex(of_module: bool, name: Text) -> Vertex
     Vertex::Prop(name)
 }
 
+/// Where the values of the property with this key stand.
+pub(crate) fn key_vertex(alloc: Global, key: &Key) -> Result<Vertex, OutOfMemory>
+    ensures { IfOk result (λ v. v ≡ values.key_vertex key.now) }
+{
+    let name = key_name(alloc, key)?;
+    Ok(property_vertex(name))
+}
+
+// The same of a property of this name or none.
+fn property_vertex(name: Option<Text>) -> Vertex
+    ensures { result ≡ values.property_vertex name }
+{
+    match name {
+        None => Vertex::Elem,
+        Some(name) => Vertex::Prop(name),
+    }
+}
+
 // Where the values of a call stand.
 fn call_vertex(
     alloc: Global,
     facts: &Facts<'_>,
     head: &Expr,
     before: &[Tail<Boxed<Expr>>],
-    arguments: &Bracket<Boxed<Expr>>,
+    arguments: &Bracket<Element<Boxed<Expr>>>,
 ) -> Result<Vertex, OutOfMemory>
     ensures { IfOk result (λ v. v ≡ values.call_vertex (facts_in facts.now) (calls.is_required (known_in facts.now.known.now) head.now before.now (elements arguments.now)) (calls.last_member before.now) arguments.now.open.start) }
 {

@@ -15,7 +15,7 @@ use Rattle.js_tree.specs.declared.tree.Stmt.{out-Stmt}
 use Rattle.js_tree.specs.declared.tree.Tree.{Tree}
 use Rattle.js_tree.specs.Folds.{ExprLayer, PatternLayer, StmtLayer}
 use Rattle.js_tree.specs.Line.{items}
-use Rattle.js_tree.specs.Parts.{Node, AnExpr, AFunction, APattern, AStmt, ASlot, ATail, ABody, nodes, parts}
+use Rattle.js_tree.specs.Parts.{Node, AnExpr, AFunction, AKey, APattern, APatternProperty, AProperty, AStmt, ASlot, ATail, ABody, nodes, parts}
 use Rattle.js_tree.specs.Spelling.Expressions.{expr_row}
 use Rattle.js_tree.specs.Spelling.Patterns.{pattern_row}
 use Rattle.js_tree.specs.Spelling.Statements.{stmt_row}
@@ -30,7 +30,7 @@ use Rattle.js_scopes.specs.Indexed.{scope_starts}
 use Rattle.js_scopes.specs.Names.{Scope, firsts, is_name, wrapper_name}
 use Rattle.js_scopes.specs.Scopes.{declared_by_pattern, declared_by_stmt, declared_by_var, declared_in, function_order, inner_functions, module_scope, own_declared, scope_in_expr, scope_of, still_declares}
 use Rattle.js_scopes.specs.Walks.{first_starts, local_starts, own_starts}
-use Rattle.js_scopes.proofs.OwnTokens.{params_owned}
+use Rattle.js_scopes.proofs.OwnTokens.{name_owned, params_owned}
 
 -- a list in order has as many items or fewer
 module _ {X : Type 0} (order : X → X → Ordering) where
@@ -52,7 +52,10 @@ module _ {X : Type 0} (order : X → X → Ordering) where
 functions_paid : (n : Node) (c : Option Token) → length (own_functions n c) + 0 ≤ 16 * length (own_tokens n) + sum_by (λ m. 0) (parts n)
 functions_paid (AFunction f) c = let a = params_owned (out-Function f) in omega (arith, a)
 functions_paid (AnExpr x) c = omega arith
+functions_paid (AKey x) c = omega arith
 functions_paid (APattern x) c = omega arith
+functions_paid (APatternProperty x) c = omega arith
+functions_paid (AProperty x) c = omega arith
 functions_paid (AStmt x) c = omega arith
 functions_paid (ASlot x) c = omega arith
 functions_paid (ATail head before t) c = omega arith
@@ -144,7 +147,7 @@ declares (AnExpr x) each m =
     omega (arith, a, b, c, d, e)
 declares (AFunction f) each m =
     let n = AFunction f in
-    let a = all_declare (parts n) false each in let b = declared_passed n m refl in let c = starts_are n in let d = function_starts f in let e = tokens_count n in let g = params_owned (out-Function f) in
+    let a = all_declare (parts n) false each in let b = declared_passed n m refl in let c = starts_are n in let d = function_starts f in let e = tokens_count n in let g = name_owned (out-Function f) in
     omega (arith, a, b, c, d, e, g)
 declares (APattern x) each m =
     let n = APattern x in
@@ -156,6 +159,18 @@ declares (AStmt x) each m =
     omega (arith, a, b, c, d, e)
 declares (ASlot x) each m =
     let n = ASlot x in
+    let a = all_declare (parts n) m each in let b = declared_through n m refl in let c = starts_are n in let e = tokens_count n in
+    omega (arith, a, b, c, e)
+declares (AKey x) each m =
+    let n = AKey x in
+    let a = all_declare (parts n) m each in let b = declared_through n m refl in let c = starts_are n in let e = tokens_count n in
+    omega (arith, a, b, c, e)
+declares (APatternProperty x) each m =
+    let n = APatternProperty x in
+    let a = all_declare (parts n) m each in let b = declared_through n m refl in let c = starts_are n in let e = tokens_count n in
+    omega (arith, a, b, c, e)
+declares (AProperty x) each m =
+    let n = AProperty x in
     let a = all_declare (parts n) m each in let b = declared_through n m refl in let c = starts_are n in let e = tokens_count n in
     omega (arith, a, b, c, e)
 declares (ATail head before t) each m =

@@ -8,8 +8,8 @@ use Rattle.js_tree.specs.declared.lists.Tail.TheVariants as tail
 use Rattle.js_tree.specs.declared.token.Token.{Token}
 use Rattle.js_tree.specs.declared.token.TokenClass.TheVariants as class
 use Rattle.js_tree.specs.declared.tree.Expr.{Expr, out-Expr}
-use Rattle.js_tree.specs.declared.tree.Expr.TheOpen.{Expr-F}
-use Rattle.js_tree.specs.Folds.{ExprLayer}
+use Rattle.js_tree.specs.declared.tree.Expr.TheOpen.{Expr-F, Key-F}
+use Rattle.js_tree.specs.Folds.{ExprLayer, KeyLayer}
 use Rattle.js_tree.specs.Lexical.Value.{value_of}
 use Rattle.js_tree.specs.Parts.{Node, AnExpr, AFunction, ATail, gathered}
 use Rattle.js_scopes.specs.Brackets.{elements, last_of, placed}
@@ -40,6 +40,14 @@ abbrev pub member_in : Tail Expr → Option (List ℕ)
 member_in (tail.Member dot name) = Some name.text
 member_in (tail.Index begin value end) = string_in (out-Expr value)
 member_in _ = None
+
+-- the name of the property that a key is: any name or word, or a string that has a value, in brackets too
+abbrev pub fixed_name : Token → Option (List ℕ)
+fixed_name t = elim t.class [ class.Str ↦ value_of t.text | class.Number ↦ None | _ ↦ Some t.text ]
+
+abbrev pub key_name : KeyLayer → Option (List ℕ)
+key_name (Key-F.Fixed t) = fixed_name t
+key_name (Key-F.Computed begin value end) = string_in (out-Expr value)
 
 -- the name of the member that a chain with these tails ends in
 abbrev pub last_member : List (Tail Expr) → Option (List ℕ)
@@ -109,7 +117,7 @@ sites_of_tail known holder head before (tail.Template t) = site_at holder t.head
 sites_of_tail known holder head before _ = []
 
 -- the arguments of `new`, where there are any
-abbrev pub made_with : Option (Bracket Expr) → List (Element Expr)
+abbrev pub made_with : Option (Bracket (Element Expr)) → List (Element Expr)
 made_with None = []
 made_with (Some a) = elements a
 

@@ -1,33 +1,76 @@
 -- Functions: what each has, and the name that it takes from what it is given to (ECMA-262, 14.1 and 8.4.1; the names are this project's own).
-use Rattle.std.specs.Prelude.{ℕ, List, [], ◌∷◌, length, Option, Some, None, option_and_then, Bool, if◌then◌else◌, codes}
+use Rattle.std.specs.Prelude.{ℕ, List, [], ◌∷◌, length, Option, Some, None, option_and_then, Bool, true, false, if◌then◌else◌, codes}
 use Rattle.std.specs.Option.{unwrap_or}
 use Rattle.std.specs.Str.{bytes_eq}
+use Rattle.js_tree.specs.declared.lists.ArrowParams.{ArrowParams}
+use Rattle.js_tree.specs.declared.lists.ArrowParams.TheVariants as shape
 use Rattle.js_tree.specs.declared.lists.Tail.{Tail}
 use Rattle.js_tree.specs.declared.lists.Tail.TheVariants as tail
 use Rattle.js_tree.specs.declared.token.Token.{Token}
 use Rattle.js_tree.specs.declared.token.TokenClass.TheVariants as class
 use Rattle.js_tree.specs.declared.tree.Expr.{Expr, out-Expr}
-use Rattle.js_tree.specs.declared.tree.Expr.TheOpen.{Expr-F, Function-F, Pattern-F}
+use Rattle.js_tree.specs.declared.tree.Expr.TheOpen.{Expr-F, Function-F, Key-F, Pattern-F, Property-F}
 use Rattle.js_tree.specs.declared.tree.Function.{Function, out-Function}
+use Rattle.js_tree.specs.declared.tree.Key.{out-Key}
 use Rattle.js_tree.specs.declared.tree.Pattern.{Pattern, out-Pattern}
+use Rattle.js_tree.specs.declared.tree.Property.{out-Property}
 use Rattle.js_tree.specs.declared.tree.Slot.{Slot, out-Slot}
-use Rattle.js_tree.specs.Folds.{ExprLayer, FunctionLayer, PatternLayer}
+use Rattle.js_tree.specs.Folds.{ExprLayer, FunctionLayer, KeyLayer, PatternLayer, PropertyLayer}
 use Rattle.js_tree.specs.Lexical.Value.{value_of}
-use Rattle.js_tree.specs.Parts.{Node, AnExpr, AFunction, ASlot, gathered}
-use Rattle.js_scopes.specs.Brackets.{elements, last_of, listed, placed}
+use Rattle.js_tree.specs.Parts.{Node, AnExpr, AFunction, AProperty, ASlot, gathered}
+use Rattle.js_scopes.specs.Brackets.{behind_dots, elements, last_of, listed, placed}
 use Rattle.js_scopes.specs.declared.function.FunctionInfo.{FunctionInfo}
 
 -- WHAT A FUNCTION HAS
 
--- its first token, its own name, and its parameters but the rest
+-- the name that a pattern is, or else this token
+abbrev pub name_token : PatternLayer → Token → Token
+name_token (Pattern-F.«Pattern::Name» t) other = t
+name_token _ other = other
+
+-- the first token of an arrow: its name, or the `(` of its parameters
+abbrev pub first_token : ArrowParams Slot → Token → Token
+first_token (shape.Bare x) arrow = name_token (out-Pattern (out-Slot x).target) arrow
+first_token (shape.Round b) arrow = b.open
+
+-- the parameters of an arrow but the rest
+abbrev pub arrow_slots : ArrowParams Slot → List Slot
+arrow_slots (shape.Bare x) = x ∷ []
+arrow_slots (shape.Round b) = placed (elements b)
+
+-- its rest, which is the last, with no comma behind it
+abbrev pub arrow_rest : ArrowParams Slot → Option Slot
+arrow_rest (shape.Bare x) = None
+arrow_rest (shape.Round b) = behind_dots b.last
+
+-- the function's first token, its own name, its parameters but the rest, the rest, whether it is an arrow, and the value that an
+-- arrow without braces gives
 abbrev pub start_in : FunctionLayer → ℕ
-start_in (Function-F.Keyword word name params body) = word.start
+start_in (Function-F.Keyword word name ps body) = word.start
+start_in (Function-F.Arrow ps arrow value) = (first_token ps arrow).start
+start_in (Function-F.ArrowBlock ps arrow body) = (first_token ps arrow).start
 
 abbrev pub name_in : FunctionLayer → Option Token
-name_in (Function-F.Keyword word name params body) = name
+name_in (Function-F.Keyword word name ps body) = name
+name_in _ = None
 
 abbrev pub params_in : FunctionLayer → List Slot
-params_in (Function-F.Keyword word name params body) = placed (elements params)
+params_in (Function-F.Keyword word name ps body) = placed (elements ps)
+params_in (Function-F.Arrow ps arrow value) = arrow_slots ps
+params_in (Function-F.ArrowBlock ps arrow body) = arrow_slots ps
+
+abbrev pub rest_in : FunctionLayer → Option Slot
+rest_in (Function-F.Keyword word name ps body) = behind_dots ps.last
+rest_in (Function-F.Arrow ps arrow value) = arrow_rest ps
+rest_in (Function-F.ArrowBlock ps arrow body) = arrow_rest ps
+
+abbrev pub is_arrow : FunctionLayer → Bool
+is_arrow (Function-F.Keyword word name ps body) = false
+is_arrow _ = true
+
+abbrev pub arrow_value : FunctionLayer → Option Expr
+arrow_value (Function-F.Arrow ps arrow value) = Some value
+arrow_value _ = None
 
 abbrev pub start_of : Function → ℕ
 start_of f = start_in (out-Function f)
@@ -75,14 +118,24 @@ gives p = pattern_gives (out-Pattern p)
 abbrev pub assigned_token : Token → Option Token → Option Token
 assigned_token op target = if is_assignment op then target else None
 
--- the token that is given to what stands directly in a node: by a target to its value; a function as a value is given what its expression is
+-- the token that is given to what stands directly in a node: by a target to its value, by a slot to its default, by a key to its value; a function as a value is given what its expression is
 abbrev pub given_in_expr : ExprLayer → Option Token → Option Token
 given_in_expr (Expr-F.Assign target op value) given = assigned_token op (gives target)
 given_in_expr (Expr-F.«Expr::Fun» function) given = given
 given_in_expr _ given = None
 
+-- by a key to what it is the key of; a computed one gives nothing
+abbrev pub key_gives : KeyLayer → Option Token
+key_gives (Key-F.Fixed t) = Some t
+key_gives _ = None
+
+abbrev pub given_in_property : PropertyLayer → Option Token
+given_in_property (Property-F.Pair key colon value) = key_gives (out-Key key)
+given_in_property _ = None
+
 abbrev pub given_in : Node → Option Token → Option Token
 given_in (AnExpr x) given = given_in_expr (out-Expr x) given
+given_in (AProperty x) given = given_in_property (out-Property x)
 given_in (ASlot x) given = gives (out-Slot x).target
 given_in _ given = None
 

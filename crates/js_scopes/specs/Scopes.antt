@@ -6,6 +6,7 @@ use Rattle.std.specs.declared.cmp.Ordering.{Ordering}
 use Rattle.js_tree.specs.declared.token.Token.{Token}
 use Rattle.js_tree.specs.declared.tree.Expr.{out-Expr}
 use Rattle.js_tree.specs.declared.tree.Expr.TheOpen.{Expr-F, Pattern-F, Stmt-F}
+use Rattle.js_tree.specs.declared.tree.Function.{Function, out-Function}
 use Rattle.js_tree.specs.declared.tree.Pattern.{out-Pattern}
 use Rattle.js_tree.specs.declared.tree.Stmt.{out-Stmt}
 use Rattle.js_tree.specs.declared.tree.Tree.{Tree}
@@ -19,7 +20,7 @@ use Rattle.js_scopes.specs.declared.site.SiteInfo.{SiteInfo}
 use Rattle.jam_base.specs.Ascending.{ascending}
 use Rattle.js_scopes.specs.Brackets.{listed}
 use Rattle.js_scopes.specs.Calls.{Known, sites_in}
-use Rattle.js_scopes.specs.Functions.{functions_in, own_name, start_of}
+use Rattle.js_scopes.specs.Functions.{functions_in, is_arrow, own_name, start_of}
 use Rattle.js_scopes.specs.Names.{Scope, Numbering, Around, firsts, function_number, wrapper_name, binding_at}
 
 -- SCOPES
@@ -80,9 +81,12 @@ scopes_in n = gathered own_scopes (λ n u. Some u) n tt
 abbrev pub bound_name : Numbering → Around → Token → BoundName
 bound_name n around t = record { start = t.start; binding = binding_at n around t }
 
--- the number of the function around the parts of a node
+-- the number of the innermost function that is no arrow, in a function and around the parts of a node: arrows have no `arguments` of their own (ECMA-262, 14.2.16)
+abbrev pub number_inside : Numbering → Function → ℕ → ℕ
+number_inside n f holder = if is_arrow (out-Function f) then holder else function_number n (start_of f)
+
 abbrev pub number_in : Numbering → Node → ℕ → ℕ
-number_in n (AFunction x) holder = function_number n (start_of x)
+number_in n (AFunction x) holder = number_inside n x holder
 number_in n _ holder = holder
 
 -- what stands around the parts of a node

@@ -7,7 +7,6 @@ ghost use Rattle.js_tree.specs.Tokens.{IsInText};
 ghost use Rattle.js_scopes.specs.AtHand.{known_in};
 ghost use Rattle.js_scopes.specs.Brackets.{elements, placed};
 ghost use Rattle.js_scopes.specs.Calls as calls;
-ghost use Rattle.js_scopes.specs.Functions as seen;
 ghost use Rattle.js_scopes.specs.Scopes.{sites_of, known_of};
 
 use crate::binder::bind;
@@ -18,7 +17,7 @@ use crate::known::Known;
 use crate::members::last_member;
 use crate::site::SiteInfo;
 use jam_base::{List, OutOfMemory, Text, ascending};
-use js_tree::{Bracket, Expr, Function, Gather, Node, Tail, Template, Tree, walk_tree};
+use js_tree::{Bracket, Element, Expr, Gather, Node, Tail, Template, Tree, walk_tree};
 use sqlite_items::Boxed;
 use std::alloc::Global;
 
@@ -99,20 +98,6 @@ impl<'t, 'm> Gather<'t> for CallSites<'m> {
     }
 }
 
-/// The offset of the first token of a function.
-pub fn start_of(function: &Function) -> u32
-    ensures { result ≡ seen.start_of function.now }
-{
-    match function {
-        Function::Keyword {
-            word,
-            name: _,
-            params: _,
-            body: _,
-        } => word.start,
-    }
-}
-
 // Adds the site of `new`, where the expression is one.
 fn push_made(value: &Expr, holder: u32, out: &mut Vec<SiteInfo>) -> Result<(), OutOfMemory>
     requires { IsInText (AnExpr value.now) }
@@ -130,7 +115,7 @@ fn push_made(value: &Expr, holder: u32, out: &mut Vec<SiteInfo>) -> Result<(), O
 }
 
 // How many of the arguments of `new` have a place.
-fn count_made(args: &Option<Boxed<Bracket<Boxed<Expr>>>>) -> u32
+fn count_made(args: &Option<Boxed<Bracket<Element<Boxed<Expr>>>>>) -> u32
     requires { length (calls.made_with args.now) < 4294967296 }
     ensures { result ≡ length (placed (calls.made_with args.now)) }
 {
@@ -171,7 +156,7 @@ fn push_call(
     known: &Known<'_>,
     head: &Expr,
     before: &[Tail<Boxed<Expr>>],
-    arguments: &Bracket<Boxed<Expr>>,
+    arguments: &Bracket<Element<Boxed<Expr>>>,
     holder: u32,
     out: &mut Vec<SiteInfo>,
 ) -> Result<(), OutOfMemory>

@@ -11,8 +11,8 @@ ghost use Rattle.js_scopes.specs.Functions.{info_in, start_in};
 ghost use Rattle.js_scopes.specs.Scopes.{functions_of};
 ghost use Rattle.js_scopes.specs.Scopes as seen;
 
+use crate::arrows::start_of;
 use crate::brackets::params_of;
-use crate::call_sites::start_of;
 use crate::function_names::{given_in, name_text};
 use crate::scope::own_name;
 use jam_base::{List, OutOfMemory, Ranked, Text, ascending};

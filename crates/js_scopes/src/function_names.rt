@@ -1,13 +1,15 @@
-//! The names that functions take from what they are assigned to.
+//! The names that functions take from what they are assigned to, and from keys.
 ghost use Rattle.std.specs.Prelude.{◌≡◌, IfOk};
 ghost use Rattle.std.specs.Option.{option_map};
 ghost use Rattle.js_tree.specs.Parts.{node_of};
 ghost use Rattle.js_tree.specs.declared.tree.Expr.{out-Expr};
+ghost use Rattle.js_tree.specs.declared.tree.Key.{out-Key};
+ghost use Rattle.js_tree.specs.declared.tree.Property.{out-Property};
 ghost use Rattle.js_scopes.specs.Functions as names;
 
 use crate::literals::key_in;
 use jam_base::{OutOfMemory, Text};
-use js_tree::{Expr, Node, Pattern, Tail, Token, TokenClass, string_value};
+use js_tree::{Expr, Key, Node, Pattern, Property, Tail, Token, TokenClass, string_value};
 use sqlite_items::Boxed;
 use std::alloc::Global;
 
@@ -17,6 +19,7 @@ pub(crate) fn given_in<'s>(node: Node<'s>, given: Option<&'s Token>) -> Option<&
 {
     match node {
         Node::Expr(value) => given_in_expr(value, given),
+        Node::Property(property) => given_in_property(property),
         Node::Slot(slot) => target_token(&slot.target),
         _ => None,
     }
@@ -33,6 +36,34 @@ fn given_in_expr<'s>(value: &'s Expr, given: Option<&'s Token>) -> Option<&'s To
         } => assigned_token(op, target.get()),
         Expr::Fun { function: _ } => given,
         _ => None,
+    }
+}
+
+// What a key gives to its value.
+fn given_in_property(property: &Property) -> Option<&Token>
+    ensures { option_map (λ t. t.now) result ≡ names.given_in_property (out-Property property.now) }
+{
+    match property {
+        Property::Pair {
+            key,
+            colon: _,
+            value: _,
+        } => key_token(key),
+        Property::Shorthand { value: _ } => None,
+        Property::Spread { dots: _, value: _ } => None,
+    }
+}
+
+fn key_token(key: &Key) -> Option<&Token>
+    ensures { option_map (λ t. t.now) result ≡ names.key_gives (out-Key key.now) }
+{
+    match key {
+        Key::Fixed(token) => Some(token),
+        Key::Computed {
+            open: _,
+            value: _,
+            close: _,
+        } => None,
     }
 }
 

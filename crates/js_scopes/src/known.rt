@@ -8,14 +8,14 @@ ghost use Rattle.js_scopes.specs.AtHand.{known_in};
 ghost use Rattle.js_scopes.specs.Brackets.{elements};
 ghost use Rattle.js_scopes.specs.Calls as seen;
 
+use crate::arrows::start_of;
 use crate::binding::{Binding, WrapperName};
 use crate::bindings::Bindings;
-use crate::call_sites::start_of;
 use crate::function::FunctionInfo;
 use crate::numbers::function_number;
 use crate::required::first_string;
 use jam_base::OutOfMemory;
-use js_tree::{Bracket, Expr, Node, Tail, Token};
+use js_tree::{Bracket, Element, Expr, Node, Tail, Token};
 use sqlite_items::Boxed;
 use std::alloc::Global;
 use std::marker::Model;
@@ -112,7 +112,7 @@ impl<'m> Known<'m> {
         alloc: Global,
         head: &Expr,
         before: &[Tail<Boxed<Expr>>],
-        arguments: &Bracket<Boxed<Expr>>,
+        arguments: &Bracket<Element<Boxed<Expr>>>,
     ) -> Result<bool, OutOfMemory>
         ensures { IfOk result (λ b. b ≡ seen.is_required (known_in self.now) head.now before.now (elements arguments.now)) }
     {

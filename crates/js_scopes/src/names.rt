@@ -13,18 +13,18 @@ ghost use Rattle.js_scopes.specs.Scopes as seen;
 ghost use Rattle.js_scopes.specs.Scopes.{names_in, own_names, around_in};
 ghost use Rattle.js_scopes.specs.Around.{around_of, AreReady, IsNumberedBy};
 
+use crate::arrows::{is_arrow, start_of};
 use crate::binding::{Binding, BoundName};
-use crate::call_sites::start_of;
 use crate::declaration::Scope;
 use crate::function::FunctionInfo;
 use crate::numbers::{function_number, local_number};
 use crate::scope::{declared_by_stmt, declarer, own_name, scope_in, scopes_inside, undeclared};
 use jam_base::OutOfMemory;
-use js_tree::{Expr, Node, Pattern, Token, push_parts};
+use js_tree::{Expr, Function, Node, Pattern, Token, push_parts};
 use std::alloc::Global;
 
-// What stands around a node: the scopes around it, innermost first, and the
-// number of the innermost function.
+// What stands around a node: the scopes around it, innermost first, and the number of the innermost
+// function that is no arrow.
 #[derive(Clone, Copy)]
 pub(crate) struct Surroundings<'a, 't> {
     pub(crate) scopes: &'a [&'a Scope<'t>],
@@ -134,14 +134,26 @@ fn push_nodes<'t>(
     Ok(())
 }
 
-// The number of the function around the parts of a node.
+// The number of the innermost function around the parts of a node that is no arrow.
 fn number_in(numbers: Numbers<'_>, node: Node<'_>, holder: u32) -> u32
     requires { AreReady numbers }
     ensures { (n : Numbering) → IsNumberedBy n numbers.entry → result ≡ seen.number_in n (node_of node.entry) holder }
 {
     match node {
-        Node::Function(function) => function_number(numbers.functions, start_of(function)),
+        Node::Function(function) => number_inside(numbers, function, holder),
         _ => holder,
+    }
+}
+
+// The same in a function: an arrow has no `arguments` of its own.
+fn number_inside(numbers: Numbers<'_>, function: &Function, holder: u32) -> u32
+    requires { AreReady numbers }
+    ensures { (n : Numbering) → IsNumberedBy n numbers.entry → result ≡ seen.number_inside n function.now holder }
+{
+    if is_arrow(function) {
+        holder
+    } else {
+        function_number(numbers.functions, start_of(function))
     }
 }
 

@@ -12,7 +12,7 @@ use std::alloc::Global;
 /// The value of the first of the arguments, where it is a string that has one.
 pub fn first_string(
     alloc: Global,
-    arguments: &Bracket<Boxed<Expr>>,
+    arguments: &Bracket<Element<Boxed<Expr>>>,
 ) -> Result<Option<Text>, OutOfMemory>
     ensures { IfOk result (λ v. v ≡ seen.first_string (elements arguments.now)) }
 {

@@ -153,6 +153,16 @@ pub fn own_name(function: &Function) -> Option<&Token>
             params: _,
             body: _,
         } => name.as_ref(),
+        Function::Arrow {
+            params: _,
+            arrow: _,
+            value: _,
+        } => None,
+        Function::ArrowBlock {
+            params: _,
+            arrow: _,
+            body: _,
+        } => None,
     }
 }
 

@@ -106,22 +106,24 @@ module _ {C B : Type 0} (own : Node → C → List B) (inner : Node → C → C)
       let d = inner n c in
       subst (AllByRecursion Q) (sym (gathered_is own within n c d refl)) (each_both Q (own n c) (all_gathered own within (parts n) d) (gives n c p i) (keep_all (parts n) d k (at_parts P n a) (keeps n c p i))))
 
--- where as many items of each node pass as of its tokens, or fewer, so do all that are gathered
-module _ {C B : Type 0} (own : Node → C → List B) (inner : Node → C → C) (p : B → Bool) (q : Token → Bool) (less : (n : Node) (c : C) → count_by p (own n c) ≤ count_by q (own_tokens n)) where
+-- where as many items of each node pass as of its tokens and as its parts have left, or fewer, so do all that are gathered
+module _ {C B : Type 0} (own : Node → C → List B) (inner : Node → C → C) (p : B → Bool) (q : Token → Bool) (left : Node → ℕ)
+    (less : (n : Node) (c : C) → count_by p (own n c) + left n ≤ count_by q (own_tokens n) + sum_by left (parts n)) where
   abbrev through : Node → C → Option C
   through n c = Some (inner n c)
 
   abbrev Counted : Node → Type 0
-  Counted n = (c : C) → count_by p (gathered own through n c) ≤ count_by q (tokens_in n)
+  Counted n = (c : C) → count_by p (gathered own through n c) + left n ≤ count_by q (tokens_in n)
 
-  all_counted : (ms : List Node) (c : C) → AllByRecursion Counted ms → count_by p (all_gathered own through ms c) ≤ count_by q (flat_map tokens_in ms)
+  all_counted : (ms : List Node) (c : C) → AllByRecursion Counted ms → count_by p (all_gathered own through ms c) + sum_by left ms ≤ count_by q (flat_map tokens_in ms)
   all_counted [] c a = omega arith
   all_counted (m ∷ ms) c a =
       let b = a.0 c in
       let d = all_counted ms c a.1 in
       let e = sum_by-append (λ x. cond (p x) 1 0) (gathered own through m c) (all_gathered own through ms c) in
       let f = sum_by-append (λ t. cond (q t) 1 0) (tokens_in m) (flat_map tokens_in ms) in
-      omega (arith, b, d, e, f)
+      let g = sum_by-cons left m ms in
+      omega (arith, b, d, e, f, g)
 
   pub counted : (n : Node) → Counted n
   counted = along_parts Counted (λ n a c.

@@ -6,17 +6,19 @@ use Rattle.js_tree.specs.declared.level.Level.TheVariants as level
 use Rattle.js_tree.specs.declared.lists.Tail.{Tail}
 use Rattle.js_tree.specs.declared.lists.Tail.TheVariants as tail
 use Rattle.js_tree.specs.declared.tree.Expr.{Expr, out-Expr}
-use Rattle.js_tree.specs.declared.tree.Expr.TheOpen.{Expr-F}
-use Rattle.js_tree.specs.Folds.{ExprLayer}
-use Rattle.js_tree.specs.Levels.{kind_rank, kind_target}
+use Rattle.js_tree.specs.declared.tree.Expr.TheOpen.{Expr-F, Function-F}
+use Rattle.js_tree.specs.declared.tree.Function.{out-Function}
+use Rattle.js_tree.specs.Folds.{ExprLayer, FunctionLayer}
+use Rattle.js_tree.specs.Levels.{function_kind_rank, kind_rank, kind_target}
 use Rattle.js_tree.specs.Operators.{is_update}
 use Rattle.js_tree.specs.Pieces.{kind}
-use Rattle.js_tree.specs.Spelling.{expr, function, pattern, stmt, slot}
+use Rattle.js_tree.specs.Spelling.{expr, seen_views}
 use Rattle.js_tree.specs.Spelling.Chains.{ends_in_member, is_member}
 use Rattle.js_tree.specs.Spelling.Expressions.{expr_rank, expr_target}
+use Rattle.js_tree.specs.Spelling.Functions.{function_rank}
 use Rattle.js_tree.specs.Spelling.Nodes.{Seen, UNARY, UPDATE, NEW, MADE, admits}
 use Rattle.js_tree.proofs.Folds.{map_tail, layer-Chain, layer-New}
-use Rattle.js_tree.proofs.SpellingLemmas.{expr_layer, of_expr}
+use Rattle.js_tree.proofs.SpellingLemmas.{expr_layer, function_layer, of_expr, of_function}
 
 unary : (l : Level) (b : Bool) → admits l (if b then UPDATE else UNARY) ≡ admits l UNARY
 unary level.Comma b = refl
@@ -47,6 +49,11 @@ primary level.Binary = refl
 primary level.Unary = refl
 primary level.Postfix = refl
 
+function_by_kind : (x : FunctionLayer) → function_rank (function_layer x) ≡ function_kind_rank x
+function_by_kind (Function-F.Keyword word name ps body) = refl
+function_by_kind (Function-F.Arrow ps arrow value) = refl
+function_by_kind (Function-F.ArrowBlock ps arrow body) = refl
+
 by_kind : (l : Level) (x : ExprLayer) → admits l (expr_rank (expr_layer x)) ≡ admits l (kind_rank x)
 by_kind l (Expr-F.Comma first others) = refl
 by_kind l (Expr-F.Assign target op value) = refl
@@ -56,7 +63,8 @@ by_kind l (Expr-F.Power base op exponent) = refl
 by_kind l (Expr-F.Unary op operand) = unary l (is_update (kind op))
 by_kind l (Expr-F.Postfix target op) = refl
 by_kind l (Expr-F.Chain head tails) = refl
-by_kind l (Expr-F.New word head tails args) = ap (λ x. admits l (expr_rank x)) (layer-New expr function pattern stmt slot word head tails args) ∙ made l (is_some _)
+by_kind l (Expr-F.New word head tails args) = ap (λ x. admits l (expr_rank x)) (layer-New seen_views word head tails args) ∙ made l (is_some _)
+by_kind l (Expr-F.«Expr::Fun» f) = ap (admits l) (ap (λ (s : Seen). s.rank) (of_function f) ∙ function_by_kind (out-Function f))
 by_kind l _ = primary l
 
 -- the level takes the expression where it takes its kind
@@ -75,7 +83,7 @@ ends_map f (t ∷ []) = member_map f t
 ends_map f (t ∷ u ∷ ts) = ends_map f (u ∷ ts)
 
 target_kind : (x : ExprLayer) → expr_target (expr_layer x) ≡ kind_target x
-target_kind (Expr-F.Chain head tails) = ap expr_target (layer-Chain expr function pattern stmt slot head tails) ∙ ends_map expr tails
+target_kind (Expr-F.Chain head tails) = ap expr_target (layer-Chain seen_views head tails) ∙ ends_map expr tails
 target_kind _ = refl
 
 -- the expression is a target where its kind says so

@@ -7,25 +7,28 @@ use Rattle.js_tree.specs.declared.lists.Tail.{Tail}
 use Rattle.js_tree.specs.declared.token.Token.{Token}
 use Rattle.js_tree.specs.declared.token_kind.TokenKind.{TokenKind}
 use Rattle.js_tree.specs.declared.tree.Expr.{Expr, out-Expr}
-use Rattle.js_tree.specs.declared.tree.Function.{Function, out-Function}
-use Rattle.js_tree.specs.declared.tree.Pattern.{Pattern, out-Pattern}
-use Rattle.js_tree.specs.declared.tree.Slot.{Slot, out-Slot}
+use Rattle.js_tree.specs.declared.tree.Function.{out-Function}
+use Rattle.js_tree.specs.declared.tree.Key.{out-Key}
+use Rattle.js_tree.specs.declared.tree.Pattern.{out-Pattern}
+use Rattle.js_tree.specs.declared.tree.PatternProperty.{out-PatternProperty}
+use Rattle.js_tree.specs.declared.tree.Property.{out-Property}
+use Rattle.js_tree.specs.declared.tree.Slot.{out-Slot}
 use Rattle.js_tree.specs.declared.tree.Stmt.{Stmt, out-Stmt}
 use Rattle.js_tree.specs.Line.{LineItem, AToken, ANode, items, possible, line_of, spelling_of, tokens_in, tokens_at, work_for}
-use Rattle.js_tree.specs.Parts.{Node, AnExpr, AFunction, APattern, AStmt, ASlot, ATail, ABody, each_tail, nodes, tails_behind, parts, count, left_in}
+use Rattle.js_tree.specs.Parts.{Node, NodeWriter, AnExpr, AFunction, AKey, APattern, APatternProperty, AProperty, AStmt, ASlot, ATail, ABody, each_tail, nodes, tails_behind, parts, count, left_in}
 use Rattle.js_tree.specs.Pieces.{Piece, Tok, tokens}
-use Rattle.js_tree.specs.Spelling.{expr, function, pattern, stmt, slot, stmts}
+use Rattle.js_tree.specs.Spelling.{expr, stmts}
 use Rattle.js_tree.specs.Spelling.Expressions.{expr_musts, expr_row}
 use Rattle.js_tree.specs.Spelling.Functions.{function_musts, function_row}
 use Rattle.js_tree.specs.Spelling.Statements.{stmt_musts, stmt_row}
 use Rattle.js_tree.specs.Spelling.Nodes.{pieces, musts, seen_line}
-use Rattle.js_tree.specs.Spelling.Rows.{Writer, each_of, maybe, tail_row}
+use Rattle.js_tree.specs.Spelling.Rows.{each_of, maybe, tail_row}
 use Rattle.js_tree.proofs.Folds.{map_tail}
 use Rattle.js_tree.proofs.GatherLemmas.{along_parts}
 use Rattle.js_tree.proofs.PartLemmas.{Any, all_any, count_is}
 use Rattle.js_tree.proofs.RowLemmas.{tail_map}
-use Rattle.js_tree.proofs.RowPairs.{Keeps, expr_keeps, function_keeps, pattern_keeps, stmt_keeps, slot_keeps, tail_keeps, body_keeps}
-use Rattle.js_tree.proofs.SpellingLemmas.{expr_line, function_line, pattern_line, stmt_line, slot_line, seen_lines, expr_layer, function_layer, stmt_layer}
+use Rattle.js_tree.proofs.RowPairs.{Keeps, expr_keeps, function_keeps, key_keeps, pattern_keeps, pattern_property_keeps, property_keeps, stmt_keeps, slot_keeps, tail_keeps, body_keeps}
+use Rattle.js_tree.proofs.SpellingLemmas.{expr_line, function_line, key_line, pattern_line, pattern_property_line, property_line, stmt_line, slot_line, seen_lines, expr_layer, function_layer, stmt_layer}
 use Rattle.js_tree.proofs.WalkLemmas.{left_more, sum_more, sum_mapped}
 
 -- TOKENS
@@ -72,13 +75,16 @@ module _ (ts : List Token) where
     ahead = λ c r s e. e;
     expr = λ x r s h e. h r ∙ ap (λ us. tokens_in (AnExpr x) ++ us) e;
     function = λ x r s h e. h r ∙ ap (λ us. tokens_in (AFunction x) ++ us) e;
+    key = λ x r s h e. h r ∙ ap (λ us. tokens_in (AKey x) ++ us) e;
     pattern = λ x r s h e. h r ∙ ap (λ us. tokens_in (APattern x) ++ us) e;
+    pattern_property = λ x r s h e. h r ∙ ap (λ us. tokens_in (APatternProperty x) ++ us) e;
+    property = λ x r s h e. h r ∙ ap (λ us. tokens_in (AProperty x) ++ us) e;
     stmt = λ x r s h e. h r ∙ ap (λ us. tokens_in (AStmt x) ++ us) e;
     slot = λ x r s h e. h r ∙ ap (λ us. tokens_in (ASlot x) ++ us) e;
     tails = λ head us ns r s h k. tails_alike head [] us ns r s h k;
   }
 
-abbrev L : Writer Expr Function Pattern Stmt Slot (List Piece)
+abbrev L : NodeWriter (List Piece)
 L = seen_lines
 
 -- the tokens of a node are those of its line, where this holds of the nodes in it
@@ -87,7 +93,10 @@ node_spelled (AnExpr x) each rest =
     ap tokens (expr_line x rest) ∙ tokens-musts (expr_musts (expr_layer (out-Expr x))) (expr_row L (out-Expr x) rest) ∙ expr_keeps L items Puts (Alike (tokens rest)) (alike (tokens rest)) (out-Expr x) rest [] each refl
 node_spelled (AFunction x) each rest =
     ap tokens (function_line x rest) ∙ tokens-musts (function_musts (function_layer (out-Function x))) (function_row L (out-Function x) rest) ∙ function_keeps L items Puts (Alike (tokens rest)) (alike (tokens rest)) (out-Function x) rest [] each refl
+node_spelled (AKey x) each rest = ap tokens (key_line x rest) ∙ key_keeps L items Puts (Alike (tokens rest)) (alike (tokens rest)) (out-Key x) rest [] each refl
 node_spelled (APattern x) each rest = ap tokens (pattern_line x rest) ∙ pattern_keeps L items Puts (Alike (tokens rest)) (alike (tokens rest)) (out-Pattern x) rest [] each refl
+node_spelled (APatternProperty x) each rest = ap tokens (pattern_property_line x rest) ∙ pattern_property_keeps L items Puts (Alike (tokens rest)) (alike (tokens rest)) (out-PatternProperty x) rest [] each refl
+node_spelled (AProperty x) each rest = ap tokens (property_line x rest) ∙ property_keeps L items Puts (Alike (tokens rest)) (alike (tokens rest)) (out-Property x) rest [] each refl
 node_spelled (AStmt x) each rest =
     ap tokens (stmt_line x rest) ∙ tokens-musts (stmt_musts (stmt_layer (out-Stmt x))) (stmt_row L (out-Stmt x) rest) ∙ stmt_keeps L items Puts (Alike (tokens rest)) (alike (tokens rest)) (out-Stmt x) rest [] each refl
 node_spelled (ASlot x) each rest = ap tokens (slot_line x rest) ∙ slot_keeps L items Puts (Alike (tokens rest)) (alike (tokens rest)) (out-Slot x) rest [] each refl
@@ -135,7 +144,10 @@ have_nodes = record {
   ahead = λ c r s e. e;
   expr = λ x r s h e. ap (λ ms. AnExpr x ∷ ms) e;
   function = λ x r s h e. ap (λ ms. AFunction x ∷ ms) e;
+  key = λ x r s h e. ap (λ ms. AKey x ∷ ms) e;
   pattern = λ x r s h e. ap (λ ms. APattern x ∷ ms) e;
+  pattern_property = λ x r s h e. ap (λ ms. APatternProperty x ∷ ms) e;
+  property = λ x r s h e. ap (λ ms. AProperty x ∷ ms) e;
   stmt = λ x r s h e. ap (λ ms. AStmt x ∷ ms) e;
   slot = λ x r s h e. ap (λ ms. ASlot x ∷ ms) e;
   tails = λ head us ns r s h k. tails_have head [] us r s (k (all_any ns));
@@ -145,7 +157,10 @@ have_nodes = record {
 pub line_nodes : (n : Node) → nodes_in (line_of n) ≡ parts n
 line_nodes (AnExpr x) = expr_keeps items nodes Any HasNodes have_nodes (out-Expr x) [] [] (all_any (parts (AnExpr x))) refl
 line_nodes (AFunction x) = function_keeps items nodes Any HasNodes have_nodes (out-Function x) [] [] (all_any (parts (AFunction x))) refl
+line_nodes (AKey x) = key_keeps items nodes Any HasNodes have_nodes (out-Key x) [] [] (all_any (parts (AKey x))) refl
 line_nodes (APattern x) = pattern_keeps items nodes Any HasNodes have_nodes (out-Pattern x) [] [] (all_any (parts (APattern x))) refl
+line_nodes (APatternProperty x) = pattern_property_keeps items nodes Any HasNodes have_nodes (out-PatternProperty x) [] [] (all_any (parts (APatternProperty x))) refl
+line_nodes (AProperty x) = property_keeps items nodes Any HasNodes have_nodes (out-Property x) [] [] (all_any (parts (AProperty x))) refl
 line_nodes (AStmt x) = stmt_keeps items nodes Any HasNodes have_nodes (out-Stmt x) [] [] (all_any (parts (AStmt x))) refl
 line_nodes (ASlot x) = slot_keeps items nodes Any HasNodes have_nodes (out-Slot x) [] [] (all_any (parts (ASlot x))) refl
 line_nodes (ATail head before t) = tail_keeps items nodes Any HasNodes have_nodes t [] [] (all_any (parts (ATail head before t))) refl

@@ -1,20 +1,23 @@
 -- Each part is lower than its node, and what is made of a node is made from what is made of its parts.
-use Rattle.std.proofs.Common.{◌≡◌, ℕ, zero, suc, ◌+◌, ◌-◌, ◌<◌, ◌≤◌, max, List, [], ◌∷◌, ◌++◌, map, sum, refl, ap, ◌∙◌, append-nil, arith, Option, Some, None}
+use Rattle.std.proofs.Common.{◌≡◌, ℕ, zero, suc, ◌-◌, ◌<◌, ◌≤◌, max, List, [], ◌∷◌, ◌++◌, map, sum, refl, ap, ◌∙◌, append-nil, arith, Option, Some, None}
 use Rattle.std.specs.List.{AllByRecursion, flat_map}
 use Rattle.std.proofs.lemmas.List.Folds.{flat_map-map}
 use Rattle.js_tree.specs.declared.lists.Tail.{Tail}
 use Rattle.js_tree.specs.declared.tree.Expr.{Expr, out-Expr, fold_out-Expr}
 use Rattle.js_tree.specs.declared.tree.Function.{Function, out-Function, fold_out-Function}
+use Rattle.js_tree.specs.declared.tree.Key.{Key, out-Key, fold_out-Key}
 use Rattle.js_tree.specs.declared.tree.Pattern.{Pattern, out-Pattern, fold_out-Pattern}
+use Rattle.js_tree.specs.declared.tree.PatternProperty.{PatternProperty, out-PatternProperty, fold_out-PatternProperty}
+use Rattle.js_tree.specs.declared.tree.Property.{Property, out-Property, fold_out-Property}
 use Rattle.js_tree.specs.declared.tree.Slot.{Slot, out-Slot, fold_out-Slot}
 use Rattle.js_tree.specs.declared.tree.Stmt.{Stmt, out-Stmt, fold_out-Stmt}
-use Rattle.js_tree.specs.Folds.{fold_expr, fold_function, fold_pattern, fold_stmt, fold_slot}
-use Rattle.js_tree.specs.Parts.{Node, AnExpr, AFunction, APattern, AStmt, ASlot, ATail, ABody, nodes, tails_behind, parts, greatest, heights, above_expr, above_stmt, height, folded_to, folded, count, unless_passed, gathered}
+use Rattle.js_tree.specs.Folds.{fold_expr, fold_function, fold_key, fold_pattern, fold_pattern_property, fold_property, fold_stmt, fold_slot, fold_views}
+use Rattle.js_tree.specs.Parts.{Node, AnExpr, AFunction, AKey, APattern, APatternProperty, AProperty, AStmt, ASlot, ATail, ABody, NodeWriter, nodes, tails_behind, parts, greatest, heights, above_expr, above_stmt, height, folded_to, folded, count, unless_passed, gathered}
 use Rattle.js_tree.specs.Spelling.{tallest_of}
-use Rattle.js_tree.specs.Spelling.Rows.{Writer, each_of, tail_row}
+use Rattle.js_tree.specs.Spelling.Rows.{each_of, tail_row}
 use Rattle.js_tree.specs.Spelling.Nodes.{unmarked}
-use Rattle.js_tree.proofs.RowLemmas.{over, tails_map, expr_over, function_over, pattern_over, stmt_over, slot_over}
-use Rattle.js_tree.proofs.RowPairs.{Keeps, expr_keeps, function_keeps, pattern_keeps, stmt_keeps, slot_keeps, tail_keeps, body_keeps}
+use Rattle.js_tree.proofs.RowLemmas.{over, tails_map, expr_over, function_over, key_over, pattern_over, pattern_property_over, property_over, stmt_over, slot_over}
+use Rattle.js_tree.proofs.RowPairs.{Keeps, expr_keeps, function_keeps, key_keeps, pattern_keeps, pattern_property_keeps, property_keeps, stmt_keeps, slot_keeps, tail_keeps, body_keeps}
 
 pub map_again : {A B C : Type 0} (g : B → C) (f : A → B) (xs : List A) → map (λ x. g (f x)) xs ≡ map g (map f xs)
 map_again g f [] = refl
@@ -42,9 +45,21 @@ is_function : (x : Function) → height (AFunction x) ≡ fold_function heights 
 unfolding height
 is_function x = refl
 
+is_key : (x : Key) → height (AKey x) ≡ fold_key heights x
+unfolding height
+is_key x = refl
+
 is_pattern : (x : Pattern) → height (APattern x) ≡ fold_pattern heights x
 unfolding height
 is_pattern x = refl
+
+is_pattern_property : (x : PatternProperty) → height (APatternProperty x) ≡ fold_pattern_property heights x
+unfolding height
+is_pattern_property x = refl
+
+is_property : (x : Property) → height (AProperty x) ≡ fold_property heights x
+unfolding height
+is_property x = refl
 
 is_stmt : (x : Stmt) → height (AStmt x) ≡ fold_stmt heights x
 unfolding height
@@ -63,18 +78,21 @@ unfolding height
 is_body body = refl
 
 -- rows without the tails of chains
-abbrev plain : Writer Expr Function Pattern Stmt Slot ℕ
+abbrev plain : NodeWriter ℕ
 plain = record {
   marks = unmarked;
   expr = above_expr;
   function = λ x h. max (fold_function heights x) h;
+  key = λ x h. max (fold_key heights x) h;
   pattern = λ x h. max (fold_pattern heights x) h;
+  pattern_property = λ x h. max (fold_pattern_property heights x) h;
+  property = λ x h. max (fold_property heights x) h;
   stmt = above_stmt;
   slot = λ x h. max (fold_slot heights x) h;
   tails = λ head ts h. h;
 }
 
-abbrev plain_nodes : Writer Expr Function Pattern Stmt Slot (List Node)
+abbrev plain_nodes : NodeWriter (List Node)
 plain_nodes = record nodes { tails = λ head ts ns. ns }
 
 plain_keeps : Keeps plain plain_nodes Any (λ h ns. highest ns ≤ h)
@@ -84,7 +102,10 @@ plain_keeps = record {
   ahead = λ c r s e. e;
   expr = λ x r s h e. (let a = is_expr x in omega (arith, a, e));
   function = λ x r s h e. (let a = is_function x in omega (arith, a, e));
+  key = λ x r s h e. (let a = is_key x in omega (arith, a, e));
   pattern = λ x r s h e. (let a = is_pattern x in omega (arith, a, e));
+  pattern_property = λ x r s h e. (let a = is_pattern_property x in omega (arith, a, e));
+  property = λ x r s h e. (let a = is_property x in omega (arith, a, e));
   stmt = λ x r s h e. (let a = is_stmt x in omega (arith, a, e));
   slot = λ x r s h e. (let a = is_slot x in omega (arith, a, e));
   tails = λ head ts ns r s h k. k (all_any ns);
@@ -101,7 +122,10 @@ module _ (m : ℕ) where
     ahead = λ c r s e. e;
     expr = λ x r s h e. (let a = e.0 in let b = e.1 in (omega (arith, a), omega (arith, b)));
     function = λ x r s h e. (let a = e.0 in let b = e.1 in (omega (arith, a), omega (arith, b)));
+    key = λ x r s h e. (let a = e.0 in let b = e.1 in (omega (arith, a), omega (arith, b)));
     pattern = λ x r s h e. (let a = e.0 in let b = e.1 in (omega (arith, a), omega (arith, b)));
+    pattern_property = λ x r s h e. (let a = e.0 in let b = e.1 in (omega (arith, a), omega (arith, b)));
+    property = λ x r s h e. (let a = e.0 in let b = e.1 in (omega (arith, a), omega (arith, b)));
     stmt = λ x r s h e. (let a = e.0 in let b = e.1 in (omega (arith, a), omega (arith, b)));
     slot = λ x r s h e. (let a = e.0 in let b = e.1 in (omega (arith, a), omega (arith, b)));
     tails = λ head ts ns r s h k. k (all_any ns);
@@ -120,8 +144,8 @@ tails_above head before (t ∷ ts) r s e =
     let d = (grown m t).1 in
     omega (arith, a, b, c, d)
 
-abbrev above : Writer Expr Function Pattern Stmt Slot ℕ
-above = over greatest (fold_expr heights) (fold_function heights) (fold_pattern heights) (fold_stmt heights) (fold_slot heights)
+abbrev above : NodeWriter ℕ
+above = over greatest (fold_views heights)
 
 -- the nodes in a row are no higher than it, with room for one between them
 above_keeps : Keeps above nodes Any (λ h ns. highest ns ≤ suc h)
@@ -131,7 +155,10 @@ above_keeps = record {
   ahead = λ c r s e. e;
   expr = λ x r s h e. (let a = is_expr x in omega (arith, a, e));
   function = λ x r s h e. (let a = is_function x in omega (arith, a, e));
+  key = λ x r s h e. (let a = is_key x in omega (arith, a, e));
   pattern = λ x r s h e. (let a = is_pattern x in omega (arith, a, e));
+  pattern_property = λ x r s h e. (let a = is_pattern_property x in omega (arith, a, e));
+  property = λ x r s h e. (let a = is_property x in omega (arith, a, e));
   stmt = λ x r s h e. (let a = is_stmt x in omega (arith, a, e));
   slot = λ x r s h e. (let a = is_slot x in omega (arith, a, e));
   tails = λ head ts ns r s h k. (let a = tails_above head [] ts r s (k (all_any ns)) in let b = tails_map unmarked max (fold_expr heights) ts r in omega (arith, a, b));
@@ -144,28 +171,43 @@ none_high = omega arith
 pub parts_below : (n : Node) → highest (parts n) < height n
 parts_below (AnExpr x) =
     let a = expr_keeps above nodes Any (λ h ns. highest ns ≤ suc h) above_keeps (out-Expr x) 0 [] (all_any (parts (AnExpr x))) none_high in
-    let b = expr_over greatest (fold_expr heights) (fold_function heights) (fold_pattern heights) (fold_stmt heights) (fold_slot heights) (out-Expr x) 0 in
-    let c = is_expr x ∙ fold_out-Expr ℕ ℕ ℕ ℕ ℕ heights.expr heights.function heights.pattern heights.stmt heights.slot x in
+    let b = expr_over greatest (fold_views heights) (out-Expr x) 0 in
+    let c = is_expr x ∙ fold_out-Expr ℕ ℕ ℕ ℕ ℕ ℕ ℕ ℕ heights.expr heights.function heights.key heights.pattern heights.pattern_property heights.property heights.stmt heights.slot x in
     omega (arith, a, b, c)
 parts_below (AFunction x) =
     let a = function_keeps above nodes Any (λ h ns. highest ns ≤ suc h) above_keeps (out-Function x) 0 [] (all_any (parts (AFunction x))) none_high in
-    let b = function_over greatest (fold_expr heights) (fold_function heights) (fold_pattern heights) (fold_stmt heights) (fold_slot heights) (out-Function x) 0 in
-    let c = is_function x ∙ fold_out-Function ℕ ℕ ℕ ℕ ℕ heights.expr heights.function heights.pattern heights.stmt heights.slot x in
+    let b = function_over greatest (fold_views heights) (out-Function x) 0 in
+    let c = is_function x ∙ fold_out-Function ℕ ℕ ℕ ℕ ℕ ℕ ℕ ℕ heights.expr heights.function heights.key heights.pattern heights.pattern_property heights.property heights.stmt heights.slot x in
+    omega (arith, a, b, c)
+parts_below (AKey x) =
+    let a = key_keeps above nodes Any (λ h ns. highest ns ≤ suc h) above_keeps (out-Key x) 0 [] (all_any (parts (AKey x))) none_high in
+    let b = key_over greatest (fold_views heights) (out-Key x) 0 in
+    let c = is_key x ∙ fold_out-Key ℕ ℕ ℕ ℕ ℕ ℕ ℕ ℕ heights.expr heights.function heights.key heights.pattern heights.pattern_property heights.property heights.stmt heights.slot x in
     omega (arith, a, b, c)
 parts_below (APattern x) =
     let a = pattern_keeps above nodes Any (λ h ns. highest ns ≤ suc h) above_keeps (out-Pattern x) 0 [] (all_any (parts (APattern x))) none_high in
-    let b = pattern_over greatest (fold_expr heights) (fold_function heights) (fold_pattern heights) (fold_stmt heights) (fold_slot heights) (out-Pattern x) 0 in
-    let c = is_pattern x ∙ fold_out-Pattern ℕ ℕ ℕ ℕ ℕ heights.expr heights.function heights.pattern heights.stmt heights.slot x in
+    let b = pattern_over greatest (fold_views heights) (out-Pattern x) 0 in
+    let c = is_pattern x ∙ fold_out-Pattern ℕ ℕ ℕ ℕ ℕ ℕ ℕ ℕ heights.expr heights.function heights.key heights.pattern heights.pattern_property heights.property heights.stmt heights.slot x in
+    omega (arith, a, b, c)
+parts_below (APatternProperty x) =
+    let a = pattern_property_keeps above nodes Any (λ h ns. highest ns ≤ suc h) above_keeps (out-PatternProperty x) 0 [] (all_any (parts (APatternProperty x))) none_high in
+    let b = pattern_property_over greatest (fold_views heights) (out-PatternProperty x) 0 in
+    let c = is_pattern_property x ∙ fold_out-PatternProperty ℕ ℕ ℕ ℕ ℕ ℕ ℕ ℕ heights.expr heights.function heights.key heights.pattern heights.pattern_property heights.property heights.stmt heights.slot x in
+    omega (arith, a, b, c)
+parts_below (AProperty x) =
+    let a = property_keeps above nodes Any (λ h ns. highest ns ≤ suc h) above_keeps (out-Property x) 0 [] (all_any (parts (AProperty x))) none_high in
+    let b = property_over greatest (fold_views heights) (out-Property x) 0 in
+    let c = is_property x ∙ fold_out-Property ℕ ℕ ℕ ℕ ℕ ℕ ℕ ℕ heights.expr heights.function heights.key heights.pattern heights.pattern_property heights.property heights.stmt heights.slot x in
     omega (arith, a, b, c)
 parts_below (AStmt x) =
     let a = stmt_keeps above nodes Any (λ h ns. highest ns ≤ suc h) above_keeps (out-Stmt x) 0 [] (all_any (parts (AStmt x))) none_high in
-    let b = stmt_over greatest (fold_expr heights) (fold_function heights) (fold_pattern heights) (fold_stmt heights) (fold_slot heights) (out-Stmt x) 0 in
-    let c = is_stmt x ∙ fold_out-Stmt ℕ ℕ ℕ ℕ ℕ heights.expr heights.function heights.pattern heights.stmt heights.slot x in
+    let b = stmt_over greatest (fold_views heights) (out-Stmt x) 0 in
+    let c = is_stmt x ∙ fold_out-Stmt ℕ ℕ ℕ ℕ ℕ ℕ ℕ ℕ heights.expr heights.function heights.key heights.pattern heights.pattern_property heights.property heights.stmt heights.slot x in
     omega (arith, a, b, c)
 parts_below (ASlot x) =
     let a = slot_keeps above nodes Any (λ h ns. highest ns ≤ suc h) above_keeps (out-Slot x) 0 [] (all_any (parts (ASlot x))) none_high in
-    let b = slot_over greatest (fold_expr heights) (fold_function heights) (fold_pattern heights) (fold_stmt heights) (fold_slot heights) (out-Slot x) 0 in
-    let c = is_slot x ∙ fold_out-Slot ℕ ℕ ℕ ℕ ℕ heights.expr heights.function heights.pattern heights.stmt heights.slot x in
+    let b = slot_over greatest (fold_views heights) (out-Slot x) 0 in
+    let c = is_slot x ∙ fold_out-Slot ℕ ℕ ℕ ℕ ℕ ℕ ℕ ℕ heights.expr heights.function heights.key heights.pattern heights.pattern_property heights.property heights.stmt heights.slot x in
     omega (arith, a, b, c)
 parts_below (ATail head before t) =
     let a = tail_keeps plain plain_nodes Any (λ h ns. highest ns ≤ h) plain_keeps t 0 [] (all_any (parts (ATail head before t))) (omega arith) in

@@ -2,6 +2,9 @@
 use Rattle.std.proofs.Common.{Bool, List, [], ◌∷◌, Option, Some, None}
 use Rattle.std.specs.List.{AllByRecursion}
 use Rattle.js_tree.specs.declared.lists.Arm.{Arm}
+use Rattle.js_tree.specs.declared.lists.ArrowParams.{ArrowParams}
+use Rattle.js_tree.specs.declared.lists.ArrowParams.TheVariants as shape
+use Rattle.js_tree.specs.declared.lists.Block.{Block}
 use Rattle.js_tree.specs.declared.lists.Bracket.{Bracket}
 use Rattle.js_tree.specs.declared.lists.Element.{Element}
 use Rattle.js_tree.specs.declared.lists.Further.{Further}
@@ -14,30 +17,37 @@ use Rattle.js_tree.specs.declared.token.Token.{Token}
 use Rattle.js_tree.specs.declared.token_kind.TokenKind.{TokenKind}
 use Rattle.js_tree.specs.declared.token_kind.TokenKind.TheVariants as kind
 use Rattle.js_tree.specs.declared.tree.Expr.{Expr}
-use Rattle.js_tree.specs.declared.tree.Expr.TheOpen.{Expr-F, Function-F, Pattern-F, Stmt-F}
+use Rattle.js_tree.specs.declared.tree.Expr.TheOpen.{Expr-F, Function-F, Key-F, Pattern-F, PatternProperty-F, Property-F, Stmt-F}
 use Rattle.js_tree.specs.declared.tree.Function.{Function}
+use Rattle.js_tree.specs.declared.tree.Key.{Key}
 use Rattle.js_tree.specs.declared.tree.Pattern.{Pattern}
+use Rattle.js_tree.specs.declared.tree.PatternProperty.{PatternProperty}
+use Rattle.js_tree.specs.declared.tree.Property.{Property}
 use Rattle.js_tree.specs.declared.tree.Slot.{Slot}
 use Rattle.js_tree.specs.declared.tree.Stmt.{Stmt}
-use Rattle.js_tree.specs.Folds.{ExprLayer, FunctionLayer, PatternLayer, StmtLayer, SlotLayer}
-use Rattle.js_tree.specs.Operators.{begins_plain, is_assignment, is_binary, is_literal, is_member_name, is_unary, is_update, on_line}
-use Rattle.js_tree.specs.Parts.{Node, AnExpr, AFunction, APattern, AStmt, ASlot, nodes, tails_behind}
+use Rattle.js_tree.specs.Folds.{ExprLayer, FunctionLayer, KeyLayer, PatternLayer, PatternPropertyLayer, PropertyLayer, StmtLayer, SlotLayer}
+use Rattle.js_tree.specs.Operators.{begins_plain, begins_value, is_assignment, is_binary, is_key, is_literal, is_member_name, is_unary, is_update, on_line}
+use Rattle.js_tree.specs.Parts.{Node, AnExpr, AFunction, AKey, APattern, APatternProperty, AProperty, AStmt, ASlot, NodeWriter, nodes, tails_behind}
 use Rattle.js_tree.specs.Spelling.Expressions.{expr_row}
 use Rattle.js_tree.specs.Spelling.Functions.{function_row}
-use Rattle.js_tree.specs.Spelling.Patterns.{pattern_row, slot_row}
-use Rattle.js_tree.specs.Spelling.Rows.{Marks, Writer, mark, may_mark, each_of, maybe, further_row, listed_row, element_row, bracket_row, template_head, template_mark, template_parts, template_row, tail_row, arm_row, init_row}
+use Rattle.js_tree.specs.Spelling.Patterns.{pattern_row, pattern_property_row, slot_row}
+use Rattle.js_tree.specs.Spelling.Properties.{key_row, property_row}
+use Rattle.js_tree.specs.Spelling.Rows.{Marks, may_mark, each_of, maybe, further_row, listed_row, element_row, bracket_row, round_row, arrow_params_row, template_head, template_mark, template_parts, template_row, tail_row, arm_row, init_row, block_row}
 use Rattle.js_tree.specs.Spelling.Nodes.{unmarked}
 use Rattle.js_tree.specs.Spelling.Statements.{stmt_row}
 use Rattle.js_tree.specs.TokenKinds.{is}
 
 -- what tokens, conditions and nodes keep of the relation, where H holds of the nodes
-pub record Keeps {R S : Type 0} (v : Writer Expr Function Pattern Stmt Slot R) (w : Writer Expr Function Pattern Stmt Slot S) (H : Node → Type 0) (Rel : R → S → Type 0) : Type 0 where
+pub record Keeps {R S : Type 0} (v : NodeWriter R) (w : NodeWriter S) (H : Node → Type 0) (Rel : R → S → Type 0) : Type 0 where
   pub token : (test : TokenKind → Bool) (t : Token) (r : R) (s : S) → Rel r s → Rel (v.marks.token test t r) (w.marks.token test t s)
   pub option : (test : TokenKind → Bool) (o : Option Token) (r : R) (s : S) → Rel r s → Rel (v.marks.option test o r) (w.marks.option test o s)
   pub ahead : (c : TokenKind → Bool → Bool) (r : R) (s : S) → Rel r s → Rel (v.marks.ahead c r) (w.marks.ahead c s)
   pub expr : (x : Expr) (r : R) (s : S) → H (AnExpr x) → Rel r s → Rel (v.expr x r) (w.expr x s)
   pub function : (x : Function) (r : R) (s : S) → H (AFunction x) → Rel r s → Rel (v.function x r) (w.function x s)
+  pub key : (x : Key) (r : R) (s : S) → H (AKey x) → Rel r s → Rel (v.key x r) (w.key x s)
   pub pattern : (x : Pattern) (r : R) (s : S) → H (APattern x) → Rel r s → Rel (v.pattern x r) (w.pattern x s)
+  pub pattern_property : (x : PatternProperty) (r : R) (s : S) → H (APatternProperty x) → Rel r s → Rel (v.pattern_property x r) (w.pattern_property x s)
+  pub property : (x : Property) (r : R) (s : S) → H (AProperty x) → Rel r s → Rel (v.property x r) (w.property x s)
   pub stmt : (x : Stmt) (r : R) (s : S) → H (AStmt x) → Rel r s → Rel (v.stmt x r) (w.stmt x s)
   pub slot : (x : Slot) (r : R) (s : S) → H (ASlot x) → Rel r s → Rel (v.slot x r) (w.slot x s)
   pub tails : (head : Expr) (ts : List (Tail Expr)) (ns : List Node) (r : R) (s : S) → AllByRecursion H (tails_behind head [] ts ns) → (AllByRecursion H ns → Rel r s) → Rel (v.tails head ts r) (w.tails head ts s)
@@ -46,9 +56,19 @@ pub record Keeps {R S : Type 0} (v : Writer Expr Function Pattern Stmt Slot R) (
 pub record Goes {R S : Type 0} (H : Node → Type 0) (Rel : R → S → Type 0) (ns : List Node) (r : R) (s : S) : Type 0 where
   pub by : AllByRecursion H ns → Rel r s
 
-module _ {R S : Type 0} (v : Writer Expr Function Pattern Stmt Slot R) (w : Writer Expr Function Pattern Stmt Slot S) (H : Node → Type 0) (Rel : R → S → Type 0) (keeps : Keeps v w H Rel) where
+-- rows of what stands in a list, which keep what G says
+pub record Item {R S : Type 0} (G : List Node → R → S → Type 0) (X : Type 0) : Type 0 where
+  pub put : X → List Node → List Node
+  pub one : X → R → R
+  pub two : X → S → S
+  pub goes : (x : X) (ns : List Node) (r : R) (s : S) → G ns r s → G (put x ns) (one x r) (two x s)
+
+module _ {R S : Type 0} (v : NodeWriter R) (w : NodeWriter S) (H : Node → Type 0) (Rel : R → S → Type 0) (keeps : Keeps v w H Rel) where
   abbrev G : List Node → R → S → Type 0
   G = Goes H Rel
+
+  abbrev I : Type 0 → Type 0
+  I = Item G
 
   token : {ns : List Node} {r : R} {s : S} (test : TokenKind → Bool) (t : Token) → G ns r s → G ns (v.marks.token test t r) (w.marks.token test t s)
   token {ns} {r} {s} test t g = record { by = λ h. keeps.token test t r s (g.by h) }
@@ -62,8 +82,17 @@ module _ {R S : Type 0} (v : Writer Expr Function Pattern Stmt Slot R) (w : Writ
   function : {ns : List Node} {r : R} {s : S} (x : Function) → G ns r s → G (AFunction x ∷ ns) (v.function x r) (w.function x s)
   function {ns} {r} {s} x g = record { by = λ h. keeps.function x r s h.0 (g.by h.1) }
 
+  key : {ns : List Node} {r : R} {s : S} (x : Key) → G ns r s → G (AKey x ∷ ns) (v.key x r) (w.key x s)
+  key {ns} {r} {s} x g = record { by = λ h. keeps.key x r s h.0 (g.by h.1) }
+
   pattern : {ns : List Node} {r : R} {s : S} (x : Pattern) → G ns r s → G (APattern x ∷ ns) (v.pattern x r) (w.pattern x s)
   pattern {ns} {r} {s} x g = record { by = λ h. keeps.pattern x r s h.0 (g.by h.1) }
+
+  pattern_property : {ns : List Node} {r : R} {s : S} (x : PatternProperty) → G ns r s → G (APatternProperty x ∷ ns) (v.pattern_property x r) (w.pattern_property x s)
+  pattern_property {ns} {r} {s} x g = record { by = λ h. keeps.pattern_property x r s h.0 (g.by h.1) }
+
+  property : {ns : List Node} {r : R} {s : S} (x : Property) → G ns r s → G (AProperty x ∷ ns) (v.property x r) (w.property x s)
+  property {ns} {r} {s} x g = record { by = λ h. keeps.property x r s h.0 (g.by h.1) }
 
   stmt : {ns : List Node} {r : R} {s : S} (x : Stmt) → G ns r s → G (AStmt x ∷ ns) (v.stmt x r) (w.stmt x s)
   stmt {ns} {r} {s} x g = record { by = λ h. keeps.stmt x r s h.0 (g.by h.1) }
@@ -77,102 +106,169 @@ module _ {R S : Type 0} (v : Writer Expr Function Pattern Stmt Slot R) (w : Writ
   token_maybe : {ns : List Node} {r : R} {s : S} (k : TokenKind) (o : Option Token) → G ns r s → G ns (may_mark v.marks k o r) (may_mark w.marks k o s)
   token_maybe {ns} {r} {s} k o g = record { by = λ h. keeps.option (is k) o r s (g.by h) }
 
-  -- lists, where their items keep the relation
-  module _ {X : Type 0} (put : X → List Node → List Node) (one : X → R → R) (two : X → S → S) (item : (x : X) (ns : List Node) (r : R) (s : S) → G ns r s → G (put x ns) (one x r) (two x s)) where
-    each : {ns : List Node} {r : R} {s : S} (xs : List X) → G ns r s → G (each_of put xs ns) (each_of one xs r) (each_of two xs s)
-    each [] g = g
-    each (x ∷ xs) g = item x _ _ _ (each xs g)
-
-    perhaps : {ns : List Node} {r : R} {s : S} (o : Option X) → G ns r s → G (maybe put o ns) (maybe one o r) (maybe two o s)
-    perhaps None g = g
-    perhaps (Some x) g = item x _ _ _ g
-
-    abbrev none : Marks (List Node)
-    none = unmarked
-
-    further : {ns : List Node} {r : R} {s : S} (test : TokenKind → Bool) (x : Further X) → G ns r s → G (further_row none put test x ns) (further_row v.marks one test x r) (further_row w.marks two test x s)
-    further test x g = token test x.mark (item x.item _ _ _ g)
-
-    element : {ns : List Node} {r : R} {s : S} (x : Element X) → G ns r s → G (element_row none put x ns) (element_row v.marks one x r) (element_row w.marks two x s)
-    element x g = token_maybe kind.Dots x.dots (item x.value _ _ _ g)
-
-    listed : {ns : List Node} {r : R} {s : S} (x : Listed (Element X)) → G ns r s → G (listed_row none (element_row none put) x ns) (listed_row v.marks (element_row v.marks one) x r) (listed_row w.marks (element_row w.marks two) x s)
-    listed x g = element x.item (token (is kind.Comma) x.mark g)
-
   abbrev unm : Marks (List Node)
   unm = unmarked
 
-  module _ {X : Type 0} (put : X → List Node → List Node) (one : X → R → R) (two : X → S → S) (item : (x : X) (ns : List Node) (r : R) (s : S) → G ns r s → G (put x ns) (one x r) (two x s)) where
-    bracket : {ns : List Node} {r : R} {s : S} (b : Bracket X) → G ns r s → G (bracket_row unm put b ns) (bracket_row v.marks one b r) (bracket_row w.marks two b s)
-    bracket b g =
-        token (is kind.LeftParen) b.«open»
-        (each (listed_row unm (element_row unm put)) (listed_row v.marks (element_row v.marks one)) (listed_row w.marks (element_row w.marks two)) (λ x ns r s k. listed put one two item x k) b.front
-        (perhaps (element_row unm put) (element_row v.marks one) (element_row w.marks two) (λ x ns r s k. element put one two item x k) b.last
-        (token (is kind.RightParen) b.close g)))
+  -- LISTS
 
-    substitutions : {ns : List Node} {r : R} {s : S} (xs : List (Listed X)) → G ns r s → G (template_parts unm put xs ns) (template_parts v.marks one xs r) (template_parts w.marks two xs s)
+  abbrev exprs : I Expr
+  exprs = record { put = nodes.expr; one = v.expr; two = w.expr; goes = λ x ns r s g. expr x g }
+
+  abbrev slots : I Slot
+  slots = record { put = nodes.slot; one = v.slot; two = w.slot; goes = λ x ns r s g. slot x g }
+
+  abbrev stmts : I Stmt
+  stmts = record { put = nodes.stmt; one = v.stmt; two = w.stmt; goes = λ x ns r s g. stmt x g }
+
+  abbrev properties : I Property
+  properties = record { put = nodes.property; one = v.property; two = w.property; goes = λ x ns r s g. property x g }
+
+  abbrev pattern_properties : I PatternProperty
+  pattern_properties = record { put = nodes.pattern_property; one = v.pattern_property; two = w.pattern_property; goes = λ x ns r s g. pattern_property x g }
+
+  -- an expression that must begin on the line
+  abbrev values : I Expr
+  values = record { put = nodes.expr; one = λ x more. v.marks.ahead on_line (v.expr x more); two = λ x more. w.marks.ahead on_line (w.expr x more); goes = λ x ns r s g. ahead on_line (expr x g) }
+
+  module _ {X : Type 0} (i : I X) where
+    each : {ns : List Node} {r : R} {s : S} (xs : List X) → G ns r s → G (each_of i.put xs ns) (each_of i.one xs r) (each_of i.two xs s)
+    each [] g = g
+    each (x ∷ xs) g = i.goes x _ _ _ (each xs g)
+
+    perhaps : {ns : List Node} {r : R} {s : S} (o : Option X) → G ns r s → G (maybe i.put o ns) (maybe i.one o r) (maybe i.two o s)
+    perhaps None g = g
+    perhaps (Some x) g = i.goes x _ _ _ g
+
+    abbrev options : I (Option X)
+    options = record { put = maybe i.put; one = maybe i.one; two = maybe i.two; goes = λ x ns r s g. perhaps x g }
+
+    abbrev further : (test : TokenKind → Bool) → I (Further X)
+    further test = record {
+      put = further_row unm i.put test;
+      one = further_row v.marks i.one test;
+      two = further_row w.marks i.two test;
+      goes = λ x ns r s g. token test x.mark (i.goes x.item _ _ _ g);
+    }
+
+    abbrev elements : I (Element X)
+    elements = record {
+      put = element_row unm i.put;
+      one = element_row v.marks i.one;
+      two = element_row w.marks i.two;
+      goes = λ x ns r s g. token_maybe kind.Dots x.dots (i.goes x.value _ _ _ g);
+    }
+
+    abbrev listed : I (Listed X)
+    listed = record {
+      put = listed_row unm i.put;
+      one = listed_row v.marks i.one;
+      two = listed_row w.marks i.two;
+      goes = λ x ns r s g. i.goes x.item _ _ _ (token (is kind.Comma) x.mark g);
+    }
+
+    abbrev arms : I (Arm X)
+    arms = record {
+      put = arm_row unm i.put;
+      one = arm_row v.marks i.one;
+      two = arm_row w.marks i.two;
+      goes = λ x ns r s g. i.goes x.test _ _ _ (token (is kind.Question) x.question (i.goes x.value _ _ _ (token (is kind.Colon) x.colon g)));
+    }
+
+    abbrev inits : I (Init X)
+    inits = record {
+      put = init_row unm i.put;
+      one = init_row v.marks i.one;
+      two = init_row w.marks i.two;
+      goes = λ x ns r s g. token is_assignment x.equals (i.goes x.value _ _ _ g);
+    }
+
+    substitutions : {ns : List Node} {r : R} {s : S} (xs : List (Listed X)) → G ns r s → G (template_parts unm i.put xs ns) (template_parts v.marks i.one xs r) (template_parts w.marks i.two xs s)
     substitutions [] g = g
-    substitutions (x ∷ xs) g = item x.item _ _ _ (token (template_mark xs) x.mark (substitutions xs g))
+    substitutions (x ∷ xs) g = i.goes x.item _ _ _ (token (template_mark xs) x.mark (substitutions xs g))
 
-    template : {ns : List Node} {r : R} {s : S} (t : Template X) → G ns r s → G (template_row unm put t ns) (template_row v.marks one t r) (template_row w.marks two t s)
+    template : {ns : List Node} {r : R} {s : S} (t : Template X) → G ns r s → G (template_row unm i.put t ns) (template_row v.marks i.one t r) (template_row w.marks i.two t s)
     template t g = token (template_head t.parts) t.head (substitutions t.parts g)
 
-    one_tail : {ns : List Node} {r : R} {s : S} (t : Tail X) → G ns r s → G (tail_row unm put t ns) (tail_row v.marks one t r) (tail_row w.marks two t s)
+    block : {ns : List Node} {r : R} {s : S} (b : Block X) → G ns r s → G (block_row unm i.put b ns) (block_row v.marks i.one b r) (block_row w.marks i.two b s)
+    block b g = token (is kind.LeftBrace) b.begin (each b.body (token (is kind.RightBrace) b.end g))
+
+  module _ (begin end : TokenKind) {X : Type 0} (i : I X) where
+    bracket : {ns : List Node} {r : R} {s : S} (b : Bracket X) → G ns r s → G (bracket_row unm begin end i.put b ns) (bracket_row v.marks begin end i.one b r) (bracket_row w.marks begin end i.two b s)
+    bracket b g = token (is begin) b.«open» (each (listed i) b.front (perhaps i b.last (token (is end) b.close g)))
+
+  module _ {X : Type 0} (i : I X) where
+    round : {ns : List Node} {r : R} {s : S} (b : Bracket (Element X)) → G ns r s → G (round_row unm i.put b ns) (round_row v.marks i.one b r) (round_row w.marks i.two b s)
+    round b g = bracket kind.LeftParen kind.RightParen (elements i) b g
+
+    abbrev rounds : I (Bracket (Element X))
+    rounds = record { put = round_row unm i.put; one = round_row v.marks i.one; two = round_row w.marks i.two; goes = λ x ns r s g. round x g }
+
+    arrow_params : {ns : List Node} {r : R} {s : S} (b : ArrowParams X) → G ns r s → G (arrow_params_row unm i.put b ns) (arrow_params_row v.marks i.one b r) (arrow_params_row w.marks i.two b s)
+    arrow_params (shape.Bare x) g = i.goes x _ _ _ g
+    arrow_params (shape.Round b) g = round b g
+
+    one_tail : {ns : List Node} {r : R} {s : S} (t : Tail X) → G ns r s → G (tail_row unm i.put t ns) (tail_row v.marks i.one t r) (tail_row w.marks i.two t s)
     one_tail (tail.Member dot name) g = token (is kind.Dot) dot (token is_member_name name g)
-    one_tail (tail.Index begin value end) g = token (is kind.LeftBracket) begin (item value _ _ _ (token (is kind.RightBracket) end g))
-    one_tail (tail.Call b) g = bracket b g
-    one_tail (tail.Template t) g = template t g
+    one_tail (tail.Index begin value end) g = token (is kind.LeftBracket) begin (i.goes value _ _ _ (token (is kind.RightBracket) end g))
+    one_tail (tail.Call b) g = round b g
+    one_tail (tail.Template t) g = template i t g
 
-    arm : {ns : List Node} {r : R} {s : S} (x : Arm X) → G ns r s → G (arm_row unm put x ns) (arm_row v.marks one x r) (arm_row w.marks two x s)
-    arm x g = item x.test _ _ _ (token (is kind.Question) x.question (item x.value _ _ _ (token (is kind.Colon) x.colon g)))
-
-    init : {ns : List Node} {r : R} {s : S} (x : Init X) → G ns r s → G (init_row unm put x ns) (init_row v.marks one x r) (init_row w.marks two x s)
-    init x g = token (is kind.Assign) x.equals (item x.value _ _ _ g)
+  -- KINDS OF NODES
 
   goes_expr : {ns : List Node} {r : R} {s : S} (x : ExprLayer) → G ns r s → G (expr_row nodes x ns) (expr_row v x r) (expr_row w x s)
   goes_expr (Expr-F.«Expr::Name» t) g = token (is kind.Name) t g
   goes_expr (Expr-F.This t) g = token (is kind.This) t g
   goes_expr (Expr-F.Literal t) g = token is_literal t g
-  goes_expr (Expr-F.Template t) g = template nodes.expr v.expr w.expr (λ x ns r s k. expr x k) t g
+  goes_expr (Expr-F.Template t) g = template exprs t g
   goes_expr (Expr-F.«Expr::Paren» begin inner end) g = token (is kind.LeftParen) begin (expr inner (token (is kind.RightParen) end g))
+  goes_expr (Expr-F.«Expr::Array» items) g = bracket kind.LeftBracket kind.RightBracket (options (elements exprs)) items g
+  goes_expr (Expr-F.«Expr::Object» ps) g = bracket kind.LeftBrace kind.RightBrace properties ps g
   goes_expr (Expr-F.«Expr::Fun» f) g = function f g
   goes_expr (Expr-F.Chain head ts) g = expr head (tails head ts g)
-  goes_expr (Expr-F.New word head ts args) g =
-      token (is kind.New) word (expr head (tails head ts
-      (perhaps (bracket_row unm nodes.expr) (bracket_row v.marks v.expr) (bracket_row w.marks w.expr) (λ b ns r s k. bracket nodes.expr v.expr w.expr (λ x ns r s l. expr x l) b k) args g)))
+  goes_expr (Expr-F.New word head ts args) g = token (is kind.New) word (expr head (tails head ts (perhaps (rounds exprs) args g)))
   goes_expr (Expr-F.NewTarget word dot target) g = token (is kind.New) word (token (is kind.Dot) dot (token (is kind.Name) target g))
   goes_expr (Expr-F.Postfix target op) g = expr target (ahead on_line (token is_update op g))
   goes_expr (Expr-F.Unary op operand) g = token is_unary op (expr operand g)
   goes_expr (Expr-F.Power base op exponent) g = expr base (token (is kind.Stars) op (expr exponent g))
-  goes_expr (Expr-F.Binary level first others) g =
-      expr first (each (further_row unm nodes.expr (is_binary level)) (further_row v.marks v.expr (is_binary level)) (further_row w.marks w.expr (is_binary level)) (λ x ns r s k. further nodes.expr v.expr w.expr (λ y ns r s l. expr y l) (is_binary level) x k) others g)
-  goes_expr (Expr-F.Cond arms last) g =
-      each (arm_row unm nodes.expr) (arm_row v.marks v.expr) (arm_row w.marks w.expr) (λ x ns r s k. arm nodes.expr v.expr w.expr (λ y ns r s l. expr y l) x k) arms (expr last g)
+  goes_expr (Expr-F.Binary level first others) g = expr first (each (further exprs (is_binary level)) others g)
+  goes_expr (Expr-F.Cond tests last) g = each (arms exprs) tests (expr last g)
   goes_expr (Expr-F.Assign target op value) g = pattern target (token is_assignment op (expr value g))
-  goes_expr (Expr-F.Comma first others) g =
-      expr first (each (further_row unm nodes.expr (is kind.Comma)) (further_row v.marks v.expr (is kind.Comma)) (further_row w.marks w.expr (is kind.Comma)) (λ x ns r s k. further nodes.expr v.expr w.expr (λ y ns r s l. expr y l) (is kind.Comma) x k) others g)
+  goes_expr (Expr-F.Comma first others) g = expr first (each (further exprs (is kind.Comma)) others g)
 
   goes_function : {ns : List Node} {r : R} {s : S} (x : FunctionLayer) → G ns r s → G (function_row nodes x ns) (function_row v x r) (function_row w x s)
-  goes_function (Function-F.Keyword word name params body) g =
-      token (is kind.Function) word (token_maybe kind.Name name (bracket nodes.slot v.slot w.slot (λ x ns r s k. slot x k) params
-      (token (is kind.LeftBrace) body.begin (each nodes.stmt v.stmt w.stmt (λ x ns r s k. stmt x k) body.body (token (is kind.RightBrace) body.end g)))))
+  goes_function (Function-F.Keyword word name ps body) g = token (is kind.Function) word (token_maybe kind.Name name (round slots ps (block stmts body g)))
+  goes_function (Function-F.Arrow ps arrow value) g = arrow_params slots ps (ahead on_line (token (is kind.Arrow) arrow (ahead begins_value (expr value g))))
+  goes_function (Function-F.ArrowBlock ps arrow body) g = arrow_params slots ps (ahead on_line (token (is kind.Arrow) arrow (block stmts body g)))
+
+  goes_key : {ns : List Node} {r : R} {s : S} (x : KeyLayer) → G ns r s → G (key_row nodes x ns) (key_row v x r) (key_row w x s)
+  goes_key (Key-F.Fixed t) g = token is_key t g
+  goes_key (Key-F.Computed begin value end) g = token (is kind.LeftBracket) begin (expr value (token (is kind.RightBracket) end g))
 
   goes_pattern : {ns : List Node} {r : R} {s : S} (x : PatternLayer) → G ns r s → G (pattern_row nodes x ns) (pattern_row v x r) (pattern_row w x s)
   goes_pattern (Pattern-F.«Pattern::Name» t) g = token (is kind.Name) t g
   goes_pattern (Pattern-F.Member chain) g = expr chain g
   goes_pattern (Pattern-F.«Pattern::Paren» begin inner end) g = token (is kind.LeftParen) begin (pattern inner (token (is kind.RightParen) end g))
+  goes_pattern (Pattern-F.«Pattern::Array» items) g = bracket kind.LeftBracket kind.RightBracket (options (elements slots)) items g
+  goes_pattern (Pattern-F.«Pattern::Object» ps) g = bracket kind.LeftBrace kind.RightBrace pattern_properties ps g
+
+  goes_pattern_property : {ns : List Node} {r : R} {s : S} (x : PatternPropertyLayer) → G ns r s → G (pattern_property_row nodes x ns) (pattern_property_row v x r) (pattern_property_row w x s)
+  goes_pattern_property (PatternProperty-F.Keyed k colon l) g = key k (token (is kind.Colon) colon (slot l g))
+  goes_pattern_property (PatternProperty-F.Named l) g = slot l g
+  goes_pattern_property (PatternProperty-F.Rest dots l) g = token (is kind.Dots) dots (slot l g)
+
+  goes_property : {ns : List Node} {r : R} {s : S} (x : PropertyLayer) → G ns r s → G (property_row nodes x ns) (property_row v x r) (property_row w x s)
+  goes_property (Property-F.Pair k colon value) g = key k (token (is kind.Colon) colon (expr value g))
+  goes_property (Property-F.Shorthand value) g = expr value g
+  goes_property (Property-F.Spread dots value) g = token (is kind.Dots) dots (expr value g)
 
   goes_stmt : {ns : List Node} {r : R} {s : S} (x : StmtLayer) → G ns r s → G (stmt_row nodes x ns) (stmt_row v x r) (stmt_row w x s)
   goes_stmt (Stmt-F.Plain value semi) g = ahead begins_plain (expr value (token_maybe kind.Semicolon semi g))
-  goes_stmt (Stmt-F.Vars word first others semi) g =
-      token (is kind.Var) word (slot first (each (further_row unm nodes.slot (is kind.Comma)) (further_row v.marks v.slot (is kind.Comma)) (further_row w.marks w.slot (is kind.Comma)) (λ x ns r s k. further nodes.slot v.slot w.slot (λ y ns r s l. slot y l) (is kind.Comma) x k) others
-      (token_maybe kind.Semicolon semi g)))
-  goes_stmt (Stmt-F.Return word value semi) g =
-      token (is kind.Return) word (perhaps nodes.expr (λ x more. v.marks.ahead on_line (v.expr x more)) (λ x more. w.marks.ahead on_line (w.expr x more)) (λ x ns r s k. ahead on_line (expr x k)) value (token_maybe kind.Semicolon semi g))
+  goes_stmt (Stmt-F.Vars word first others semi) g = token (is kind.Var) word (slot first (each (further slots (is kind.Comma)) others (token_maybe kind.Semicolon semi g)))
+  goes_stmt (Stmt-F.Return word value semi) g = token (is kind.Return) word (perhaps values value (token_maybe kind.Semicolon semi g))
   goes_stmt (Stmt-F.«Stmt::Fun» f) g = function f g
 
   goes_slot : {ns : List Node} {r : R} {s : S} (x : SlotLayer) → G ns r s → G (slot_row nodes x ns) (slot_row v x r) (slot_row w x s)
-  goes_slot x g = pattern x.target (perhaps (init_row unm nodes.expr) (init_row v.marks v.expr) (init_row w.marks w.expr) (λ i ns r s k. init nodes.expr v.expr w.expr (λ y ns r s l. expr y l) i k) x.init g)
+  goes_slot x g = pattern x.target (perhaps (inits exprs) x.init g)
 
   -- the end of a row
   abbrev stays : (r : R) (s : S) → Rel r s → G [] r s
@@ -184,8 +280,17 @@ module _ {R S : Type 0} (v : Writer Expr Function Pattern Stmt Slot R) (w : Writ
   pub function_keeps : (x : FunctionLayer) (r : R) (s : S) → AllByRecursion H (function_row nodes x []) → Rel r s → Rel (function_row v x r) (function_row w x s)
   function_keeps x r s h e = (goes_function x (stays r s e)).by h
 
+  pub key_keeps : (x : KeyLayer) (r : R) (s : S) → AllByRecursion H (key_row nodes x []) → Rel r s → Rel (key_row v x r) (key_row w x s)
+  key_keeps x r s h e = (goes_key x (stays r s e)).by h
+
   pub pattern_keeps : (x : PatternLayer) (r : R) (s : S) → AllByRecursion H (pattern_row nodes x []) → Rel r s → Rel (pattern_row v x r) (pattern_row w x s)
   pattern_keeps x r s h e = (goes_pattern x (stays r s e)).by h
+
+  pub pattern_property_keeps : (x : PatternPropertyLayer) (r : R) (s : S) → AllByRecursion H (pattern_property_row nodes x []) → Rel r s → Rel (pattern_property_row v x r) (pattern_property_row w x s)
+  pattern_property_keeps x r s h e = (goes_pattern_property x (stays r s e)).by h
+
+  pub property_keeps : (x : PropertyLayer) (r : R) (s : S) → AllByRecursion H (property_row nodes x []) → Rel r s → Rel (property_row v x r) (property_row w x s)
+  property_keeps x r s h e = (goes_property x (stays r s e)).by h
 
   pub stmt_keeps : (x : StmtLayer) (r : R) (s : S) → AllByRecursion H (stmt_row nodes x []) → Rel r s → Rel (stmt_row v x r) (stmt_row w x s)
   stmt_keeps x r s h e = (goes_stmt x (stays r s e)).by h
@@ -194,13 +299,16 @@ module _ {R S : Type 0} (v : Writer Expr Function Pattern Stmt Slot R) (w : Writ
   slot_keeps x r s h e = (goes_slot x (stays r s e)).by h
 
   pub tail_keeps : (t : Tail Expr) (r : R) (s : S) → AllByRecursion H (tail_row unm nodes.expr t []) → Rel r s → Rel (tail_row v.marks v.expr t r) (tail_row w.marks w.expr t s)
-  tail_keeps t r s h e = (one_tail nodes.expr v.expr w.expr (λ x ns r s k. expr x k) t (stays r s e)).by h
+  tail_keeps t r s h e = (one_tail exprs t (stays r s e)).by h
 
   pub body_keeps : (xs : List Stmt) (r : R) (s : S) → AllByRecursion H (each_of nodes.stmt xs []) → Rel r s → Rel (each_of v.stmt xs r) (each_of w.stmt xs s)
-  body_keeps xs r s h e = (each nodes.stmt v.stmt w.stmt (λ x ns r s k. stmt x k) xs (stays r s e)).by h
+  body_keeps xs r s h e = (each stmts xs (stays r s e)).by h
 
-  pub arguments_keeps : (o : Bracket Expr) (r : R) (s : S) → AllByRecursion H (bracket_row unm nodes.expr o []) → Rel r s → Rel (bracket_row v.marks v.expr o r) (bracket_row w.marks w.expr o s)
-  arguments_keeps o r s h e = (bracket nodes.expr v.expr w.expr (λ x ns r s k. expr x k) o (stays r s e)).by h
+  pub arguments_keeps : (o : Bracket (Element Expr)) (r : R) (s : S) → AllByRecursion H (round_row unm nodes.expr o []) → Rel r s → Rel (round_row v.marks v.expr o r) (round_row w.marks w.expr o s)
+  arguments_keeps o r s h e = (round exprs o (stays r s e)).by h
 
-  pub params_keeps : (o : Bracket Slot) (r : R) (s : S) → AllByRecursion H (bracket_row unm nodes.slot o []) → Rel r s → Rel (bracket_row v.marks v.slot o r) (bracket_row w.marks w.slot o s)
-  params_keeps o r s h e = (bracket nodes.slot v.slot w.slot (λ x ns r s k. slot x k) o (stays r s e)).by h
+  pub params_keeps : (o : Bracket (Element Slot)) (r : R) (s : S) → AllByRecursion H (round_row unm nodes.slot o []) → Rel r s → Rel (round_row v.marks v.slot o r) (round_row w.marks w.slot o s)
+  params_keeps o r s h e = (round slots o (stays r s e)).by h
+
+  pub arrow_params_keeps : (o : ArrowParams Slot) (r : R) (s : S) → AllByRecursion H (arrow_params_row unm nodes.slot o []) → Rel r s → Rel (arrow_params_row v.marks v.slot o r) (arrow_params_row w.marks w.slot o s)
+  arrow_params_keeps o r s h e = (arrow_params slots o (stays r s e)).by h

@@ -8,13 +8,14 @@ use Rattle.js_tree.specs.declared.token.Token.{Token}
 use Rattle.js_tree.specs.declared.token.TokenClass.{TokenClass}
 use Rattle.js_tree.specs.declared.token.TokenClass.TheVariants as class
 use Rattle.js_tree.specs.declared.lists.Arm.{Arm}
+use Rattle.js_tree.specs.declared.lists.ArrowParams.{ArrowParams}
+use Rattle.js_tree.specs.declared.lists.ArrowParams.TheVariants as shape
 use Rattle.js_tree.specs.declared.lists.Tail.{Tail}
 use Rattle.js_tree.specs.declared.tree.Expr.{Expr, out-Expr}
 use Rattle.js_tree.specs.declared.tree.Expr.TheOpen.{Expr-F, Function-F, Pattern-F}
-use Rattle.js_tree.specs.declared.tree.Function.{Function, out-Function}
-use Rattle.js_tree.specs.declared.tree.Pattern.{Pattern, out-Pattern}
+use Rattle.js_tree.specs.declared.tree.Function.{out-Function}
+use Rattle.js_tree.specs.declared.tree.Pattern.{out-Pattern}
 use Rattle.js_tree.specs.declared.tree.Slot.{Slot}
-use Rattle.js_tree.specs.declared.tree.Stmt.{Stmt}
 use Rattle.js_tree.specs.declared.tree.Tree.{Tree}
 use Rattle.js_tree.specs.Folds.{ExprLayer, FunctionLayer, PatternLayer}
 use Rattle.js_tree.specs.declared.part.RegexPart.TheVariants as regex_part
@@ -23,12 +24,12 @@ use Rattle.js_tree.specs.Lexical.Name as name
 use Rattle.js_tree.specs.Lexical.Regex as regex
 use Rattle.js_tree.specs.Lexing.{Place, start_of}
 use Rattle.js_tree.specs.Line.{LineItem, ANode, items, possible, line_of}
-use Rattle.js_tree.specs.Parts.{Node, AnExpr, AFunction, APattern, AStmt, ASlot, ATail, ABody, each_tail, parts, tails_behind}
+use Rattle.js_tree.specs.Parts.{Node, NodeWriter, AnExpr, AFunction, AKey, APattern, APatternProperty, AProperty, AStmt, ASlot, ATail, ABody, each_tail, parts, tails_behind}
 use Rattle.js_tree.specs.Spelling.{tokens_of}
 use Rattle.js_tree.specs.Spelling.Expressions.{expr_row}
 use Rattle.js_tree.specs.Spelling.Functions.{function_row}
 use Rattle.js_tree.specs.Spelling.Patterns.{pattern_row}
-use Rattle.js_tree.specs.Spelling.Rows.{Writer, arm_row, each_of}
+use Rattle.js_tree.specs.Spelling.Rows.{arrow_params_row, arm_row, each_of}
 use Rattle.js_tree.specs.Spells.{Spells, limit}
 use Rattle.js_tree.specs.Tokens.{IsInText, IsOfText, own_tokens, tokens_among, tokens_in}
 use Rattle.js_tree.proofs.GatherLemmas.{along_parts, each_back, each_front}
@@ -238,12 +239,15 @@ Begins (APattern x) = 0 < length (tokens_in (APattern x))
 Begins _ = Unit {0}
 
 -- whether a row has something that has a token
-abbrev some_part : Writer Expr Function Pattern Stmt Slot Bool
+abbrev some_part : NodeWriter Bool
 some_part = record {
   marks = record { token = λ test t b. true; option = λ test o b. b; ahead = λ c b. b };
   expr = λ x b. true;
   function = λ x b. true;
+  key = λ x b. b;
   pattern = λ x b. true;
+  pattern_property = λ x b. b;
+  property = λ x b. b;
   stmt = λ x b. b;
   slot = λ x b. b;
   tails = λ head ts b. b;
@@ -257,13 +261,21 @@ expr_some : (x : ExprLayer) → expr_row some_part x false ≡ true
 expr_some (Expr-F.Cond arms last) = arms_some arms
 expr_some _ = refl
 
+params_some : (ps : ArrowParams Slot) → arrow_params_row some_part.marks some_part.slot ps true ≡ true
+params_some (shape.Bare x) = refl
+params_some (shape.Round b) = refl
+
 function_some : (x : FunctionLayer) → function_row some_part x false ≡ true
-function_some (Function-F.Keyword word name params body) = refl
+function_some (Function-F.Keyword word name ps body) = refl
+function_some (Function-F.Arrow ps arrow value) = params_some ps
+function_some (Function-F.ArrowBlock ps arrow body) = params_some ps
 
 pattern_some : (x : PatternLayer) → pattern_row some_part x false ≡ true
 pattern_some (Pattern-F.«Pattern::Name» t) = refl
 pattern_some (Pattern-F.Member chain) = refl
 pattern_some (Pattern-F.«Pattern::Paren» begin inner end) = refl
+pattern_some (Pattern-F.«Pattern::Array» slots) = refl
+pattern_some (Pattern-F.«Pattern::Object» properties) = refl
 
 -- how many tokens items have
 abbrev weight : List LineItem → ℕ
@@ -296,6 +308,9 @@ has_some = record {
   expr = λ x r s h e. (λ f. node_has (AnExpr x) s h);
   function = λ x r s h e. (λ f. node_has (AFunction x) s h);
   pattern = λ x r s h e. (λ f. node_has (APattern x) s h);
+  key = λ x r s h e. also_has (AKey x) r s e;
+  pattern_property = λ x r s h e. also_has (APatternProperty x) r s e;
+  property = λ x r s h e. also_has (AProperty x) r s e;
   stmt = λ x r s h e. also_has (AStmt x) r s e;
   slot = λ x r s h e. also_has (ASlot x) r s e;
   tails = λ head ts ns r s h k. tails_have head [] ts ns r s h k;
@@ -311,6 +326,9 @@ begins_by : (n : Node) → AllByRecursion Begins (parts n) → Begins n
 begins_by (AnExpr x) each = weight_is (AnExpr x) (expr_keeps some_part items Begins Has has_some (out-Expr x) false [] each none_has (expr_some (out-Expr x)))
 begins_by (AFunction x) each = weight_is (AFunction x) (function_keeps some_part items Begins Has has_some (out-Function x) false [] each none_has (function_some (out-Function x)))
 begins_by (APattern x) each = weight_is (APattern x) (pattern_keeps some_part items Begins Has has_some (out-Pattern x) false [] each none_has (pattern_some (out-Pattern x)))
+begins_by (AKey x) each = tt
+begins_by (APatternProperty x) each = tt
+begins_by (AProperty x) each = tt
 begins_by (AStmt x) each = tt
 begins_by (ASlot x) each = tt
 begins_by (ATail head before t) each = tt

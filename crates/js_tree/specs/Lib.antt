@@ -1,3 +1,4 @@
+pub mod Adds
 pub mod Folds
 pub mod Lexing
 pub mod Lexical

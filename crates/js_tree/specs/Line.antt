@@ -1,21 +1,26 @@
 -- The line of a node as tokens and nodes one after another, and what they are as tokens.
-use Rattle.std.specs.Prelude.{ℕ, ◌+◌, List, [], ◌∷◌, ◌++◌, length, Option}
+use Rattle.std.specs.Prelude.{ℕ, ◌+◌, List, [], ◌∷◌, length, Option}
 use Rattle.js_tree.specs.declared.line.LineItem.{LineItem as Given}
 use Rattle.js_tree.specs.declared.line.LineItem.TheVariants as given
+use Rattle.js_tree.specs.declared.lists.Bracket.{Bracket}
 use Rattle.js_tree.specs.declared.lists.Tail.{Tail}
 use Rattle.js_tree.specs.declared.token.Token.{Token}
 use Rattle.js_tree.specs.declared.tree.Expr.{Expr, out-Expr}
-use Rattle.js_tree.specs.declared.tree.Function.{Function, out-Function}
-use Rattle.js_tree.specs.declared.tree.Pattern.{Pattern, out-Pattern}
-use Rattle.js_tree.specs.declared.tree.Slot.{Slot, out-Slot}
-use Rattle.js_tree.specs.declared.tree.Stmt.{Stmt, out-Stmt}
-use Rattle.js_tree.specs.Parts.{Node, AnExpr, AFunction, APattern, AStmt, ASlot, ATail, ABody, node_of, count, each_tail}
+use Rattle.js_tree.specs.declared.tree.Function.{out-Function}
+use Rattle.js_tree.specs.declared.tree.Key.{out-Key}
+use Rattle.js_tree.specs.declared.tree.Pattern.{out-Pattern}
+use Rattle.js_tree.specs.declared.tree.PatternProperty.{out-PatternProperty}
+use Rattle.js_tree.specs.declared.tree.Property.{out-Property}
+use Rattle.js_tree.specs.declared.tree.Slot.{out-Slot}
+use Rattle.js_tree.specs.declared.tree.Stmt.{out-Stmt}
+use Rattle.js_tree.specs.Parts.{Node, AnExpr, AFunction, AKey, APattern, APatternProperty, AProperty, AStmt, ASlot, ATail, ABody, NodeWriter, node_of, count, each_tail}
 use Rattle.js_tree.specs.Pieces.{Onto, tokens}
-use Rattle.js_tree.specs.Spelling.{expr, function, pattern, stmt, slot, stmts}
+use Rattle.js_tree.specs.Spelling.{expr, function, key, pattern, pattern_property, property, stmt, slot, stmts}
 use Rattle.js_tree.specs.Spelling.Expressions.{expr_row}
 use Rattle.js_tree.specs.Spelling.Functions.{function_row}
-use Rattle.js_tree.specs.Spelling.Patterns.{pattern_row, slot_row}
-use Rattle.js_tree.specs.Spelling.Rows.{Marks, Writer, each_of, maybe, tail_row}
+use Rattle.js_tree.specs.Spelling.Patterns.{pattern_row, pattern_property_row, slot_row}
+use Rattle.js_tree.specs.Spelling.Properties.{key_row, property_row}
+use Rattle.js_tree.specs.Spelling.Rows.{Marks, each_of, listed_row, maybe, tail_row}
 use Rattle.js_tree.specs.Spelling.Nodes.{pieces}
 use Rattle.js_tree.specs.Spelling.Statements.{stmt_row}
 
@@ -42,26 +47,40 @@ abbrev pub given_marks : Marks (List LineItem)
 given_marks = record { token = λ test t rest. AToken t ∷ rest; option = λ test. possible; ahead = λ c rest. rest }
 
 -- the items of a row
-abbrev pub items : Writer Expr Function Pattern Stmt Slot (List LineItem)
+abbrev pub items : NodeWriter (List LineItem)
 items = record {
   marks = given_marks;
   expr = λ x rest. ANode (AnExpr x) ∷ rest;
   function = λ x rest. ANode (AFunction x) ∷ rest;
+  key = λ x rest. ANode (AKey x) ∷ rest;
   pattern = λ x rest. ANode (APattern x) ∷ rest;
+  pattern_property = λ x rest. ANode (APatternProperty x) ∷ rest;
+  property = λ x rest. ANode (AProperty x) ∷ rest;
   stmt = λ x rest. ANode (AStmt x) ∷ rest;
   slot = λ x rest. ANode (ASlot x) ∷ rest;
   tails = λ head. tail_items head [];
 }
 
+-- items in brackets of any kind
+abbrev pub in_brackets : {I : Type 0} → (I → List LineItem → List LineItem) → Bracket I → List LineItem → List LineItem
+in_brackets put b rest = AToken b.open ∷ each_of (listed_row given_marks put) b.front (maybe put b.last (AToken b.close ∷ rest))
+
+-- the line of a node, in front of other items
+abbrev pub line_row : Node → List LineItem → List LineItem
+line_row (AnExpr x) = expr_row items (out-Expr x)
+line_row (AFunction x) = function_row items (out-Function x)
+line_row (AKey x) = key_row items (out-Key x)
+line_row (APattern x) = pattern_row items (out-Pattern x)
+line_row (APatternProperty x) = pattern_property_row items (out-PatternProperty x)
+line_row (AProperty x) = property_row items (out-Property x)
+line_row (AStmt x) = stmt_row items (out-Stmt x)
+line_row (ASlot x) = slot_row items (out-Slot x)
+line_row (ATail head before t) = tail_row given_marks items.expr t
+line_row (ABody body) = each_of items.stmt body
+
 -- the line of a node
 abbrev pub line_of : Node → List LineItem
-line_of (AnExpr x) = expr_row items (out-Expr x) []
-line_of (AFunction x) = function_row items (out-Function x) []
-line_of (APattern x) = pattern_row items (out-Pattern x) []
-line_of (AStmt x) = stmt_row items (out-Stmt x) []
-line_of (ASlot x) = slot_row items (out-Slot x) []
-line_of (ATail head before t) = tail_row given_marks items.expr t []
-line_of (ABody body) = each_of items.stmt body []
+line_of n = line_row n []
 
 -- the spelling of an expression as it stands in a tail
 abbrev pub expr_line : Expr → Onto
@@ -71,7 +90,10 @@ expr_line x = (expr x).line
 abbrev pub spelling_of : Node → Onto
 spelling_of (AnExpr x) = (expr x).line
 spelling_of (AFunction x) = (function x).line
+spelling_of (AKey x) = (key x).line
 spelling_of (APattern x) = (pattern x).line
+spelling_of (APatternProperty x) = (pattern_property x).line
+spelling_of (AProperty x) = (property x).line
 spelling_of (AStmt x) = (stmt x).line
 spelling_of (ASlot x) = (slot x).line
 spelling_of (ATail head before t) = tail_row pieces expr_line t

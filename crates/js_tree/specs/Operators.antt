@@ -12,6 +12,10 @@ is_word k = nat_le (code kind.Break) (code k)
 abbrev pub is_member_name : TokenKind → Bool
 is_member_name k = is kind.Name k || is_word k
 
+-- a key that isn't computed: a name, any word, a string or a number (ECMA-262, 12.2.6)
+abbrev pub is_key : TokenKind → Bool
+is_key k = is_member_name k || is kind.Str k || is kind.Number k
+
 -- a literal (ECMA-262, 12.2.4 and 12.2.8)
 abbrev pub is_literal : TokenKind → Bool
 is_literal kind.Null = true
@@ -97,3 +101,8 @@ begins_plain kind.LeftBrace nl = false
 begins_plain kind.Function nl = false
 begins_plain kind.Class nl = false
 begins_plain _ nl = true
+
+-- the expression that an arrow gives doesn't begin with `{` (ECMA-262, 14.2)
+abbrev pub begins_value : TokenKind → Bool → Bool
+begins_value kind.LeftBrace nl = false
+begins_value _ nl = true

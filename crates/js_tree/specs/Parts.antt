@@ -6,14 +6,18 @@ use Rattle.js_tree.specs.declared.node.Node.{Node as Given}
 use Rattle.js_tree.specs.declared.node.Node.TheVariants as given
 use Rattle.js_tree.specs.declared.tree.Expr.{Expr, out-Expr}
 use Rattle.js_tree.specs.declared.tree.Function.{Function, out-Function}
+use Rattle.js_tree.specs.declared.tree.Key.{Key, out-Key}
 use Rattle.js_tree.specs.declared.tree.Pattern.{Pattern, out-Pattern}
+use Rattle.js_tree.specs.declared.tree.PatternProperty.{PatternProperty, out-PatternProperty}
+use Rattle.js_tree.specs.declared.tree.Property.{Property, out-Property}
 use Rattle.js_tree.specs.declared.tree.Slot.{Slot, out-Slot}
 use Rattle.js_tree.specs.declared.tree.Stmt.{Stmt, out-Stmt}
-use Rattle.js_tree.specs.Folds.{Steps, fold_expr, fold_function, fold_pattern, fold_stmt, fold_slot}
+use Rattle.js_tree.specs.Folds.{Steps, fold_expr, fold_function, fold_key, fold_pattern, fold_pattern_property, fold_property, fold_stmt, fold_slot}
 use Rattle.js_tree.specs.Spelling.Expressions.{expr_row}
 use Rattle.js_tree.specs.Spelling.Functions.{function_row}
-use Rattle.js_tree.specs.Spelling.Patterns.{pattern_row, slot_row}
-use Rattle.js_tree.specs.Spelling.Rows.{Writer, each_of, tail_row}
+use Rattle.js_tree.specs.Spelling.Patterns.{pattern_row, pattern_property_row, slot_row}
+use Rattle.js_tree.specs.Spelling.Properties.{key_row, property_row}
+use Rattle.js_tree.specs.Spelling.Rows.{Writer, WriterOf, each_of, tail_row}
 use Rattle.js_tree.specs.Spelling.Nodes.{unmarked, over_nodes}
 use Rattle.js_tree.specs.Spelling.Statements.{stmt_row}
 
@@ -22,7 +26,10 @@ use Rattle.js_tree.specs.Spelling.Statements.{stmt_row}
 pub data Node : Type 0 where
   AnExpr : Expr → Node
   AFunction : Function → Node
+  AKey : Key → Node
   APattern : Pattern → Node
+  APatternProperty : PatternProperty → Node
+  AProperty : Property → Node
   AStmt : Stmt → Node
   ASlot : Slot → Node
   ATail : Expr → List (Tail Expr) → Tail Expr → Node
@@ -32,7 +39,10 @@ pub data Node : Type 0 where
 abbrev pub node_of : Given → Node
 node_of (given.Expr x) = AnExpr x.now
 node_of (given.Function x) = AFunction x.now
+node_of (given.Key x) = AKey x.now
 node_of (given.Pattern x) = APattern x.now
+node_of (given.PatternProperty x) = APatternProperty x.now
+node_of (given.Property x) = AProperty x.now
 node_of (given.Stmt x) = AStmt x.now
 node_of (given.Slot x) = ASlot x.now
 node_of (given.Tail head before tail) = ATail head.now before.now tail.now
@@ -46,30 +56,44 @@ each_tail put head before (t ∷ ts) rest = put (ATail head before t) (each_tail
 abbrev pub tails_behind : Expr → List (Tail Expr) → List (Tail Expr) → List Node → List Node
 tails_behind = each_tail (λ n rest. n ∷ rest)
 
+-- a use of the rows over the nodes themselves
+abbrev pub NodeWriter : Type 0 → Type 0
+NodeWriter R = Writer Expr Function Key Pattern PatternProperty Property Stmt Slot R
+
 -- the nodes in a row
-abbrev pub nodes : Writer Expr Function Pattern Stmt Slot (List Node)
+abbrev pub nodes : NodeWriter (List Node)
 nodes = record {
   marks = unmarked;
   expr = λ x rest. AnExpr x ∷ rest;
   function = λ x rest. AFunction x ∷ rest;
+  key = λ x rest. AKey x ∷ rest;
   pattern = λ x rest. APattern x ∷ rest;
+  pattern_property = λ x rest. APatternProperty x ∷ rest;
+  property = λ x rest. AProperty x ∷ rest;
   stmt = λ x rest. AStmt x ∷ rest;
   slot = λ x rest. ASlot x ∷ rest;
   tails = λ head. tails_behind head [];
 }
 
+-- the parts of a node, in front of other nodes
+abbrev pub parts_row : Node → List Node → List Node
+parts_row (AnExpr x) = expr_row nodes (out-Expr x)
+parts_row (AFunction x) = function_row nodes (out-Function x)
+parts_row (AKey x) = key_row nodes (out-Key x)
+parts_row (APattern x) = pattern_row nodes (out-Pattern x)
+parts_row (APatternProperty x) = pattern_property_row nodes (out-PatternProperty x)
+parts_row (AProperty x) = property_row nodes (out-Property x)
+parts_row (AStmt x) = stmt_row nodes (out-Stmt x)
+parts_row (ASlot x) = slot_row nodes (out-Slot x)
+parts_row (ATail head before t) = tail_row unmarked nodes.expr t
+parts_row (ABody body) = each_of nodes.stmt body
+
 -- the parts of a node
 abbrev pub parts : Node → List Node
-parts (AnExpr x) = expr_row nodes (out-Expr x) []
-parts (AFunction x) = function_row nodes (out-Function x) []
-parts (APattern x) = pattern_row nodes (out-Pattern x) []
-parts (AStmt x) = stmt_row nodes (out-Stmt x) []
-parts (ASlot x) = slot_row nodes (out-Slot x) []
-parts (ATail head before t) = tail_row unmarked nodes.expr t []
-parts (ABody body) = each_of nodes.stmt body []
+parts n = parts_row n []
 
 -- the greatest of the heights in a row
-abbrev pub greatest : Writer ℕ ℕ ℕ ℕ ℕ ℕ
+abbrev pub greatest : WriterOf ℕ ℕ
 greatest = over_nodes max
 
 -- the height of a node, with room for one between it and its parts
@@ -77,7 +101,10 @@ abbrev pub heights : Steps ℕ
 heights = record {
   expr = λ x. suc (suc (expr_row greatest x 0));
   function = λ x. suc (suc (function_row greatest x 0));
+  key = λ x. suc (suc (key_row greatest x 0));
   pattern = λ x. suc (suc (pattern_row greatest x 0));
+  pattern_property = λ x. suc (suc (pattern_property_row greatest x 0));
+  property = λ x. suc (suc (property_row greatest x 0));
   stmt = λ x. suc (suc (stmt_row greatest x 0));
   slot = λ x. suc (suc (slot_row greatest x 0));
 }
@@ -93,7 +120,10 @@ above_stmt x h = max (fold_stmt heights x) h
 unfoldable pub height : Node → ℕ
 height (AnExpr x) = fold_expr heights x
 height (AFunction x) = fold_function heights x
+height (AKey x) = fold_key heights x
 height (APattern x) = fold_pattern heights x
+height (APatternProperty x) = fold_pattern_property heights x
+height (AProperty x) = fold_property heights x
 height (AStmt x) = fold_stmt heights x
 height (ASlot x) = fold_slot heights x
 height (ATail head before t) = suc (tail_row unmarked above_expr t 0)

@@ -1,13 +1,14 @@
 //! Which expressions stand where, and which may be assigned to.
 ghost use Rattle.std.specs.Prelude.{◌≡◌};
 ghost use Rattle.js_tree.specs.declared.tree.Expr.{out-Expr};
-ghost use Rattle.js_tree.specs.Levels.{kind_rank, kind_target};
+ghost use Rattle.js_tree.specs.Levels.{function_kind_rank, kind_rank, kind_target};
 ghost use Rattle.js_tree.specs.Spelling.{expr as seen};
+ghost use Rattle.js_tree.specs.declared.tree.Function.{out-Function};
 ghost use Rattle.js_tree.specs.Spelling.Chains.{ends_in_member, is_member as is_member_of};
 ghost use Rattle.js_tree.specs.Spelling.Nodes.{admits as takes};
 
 use crate::lists::Tail;
-use crate::tree::Expr;
+use crate::tree::{Expr, Function};
 use sqlite_items::Boxed;
 
 /// The levels of expressions, the weakest first.
@@ -25,7 +26,8 @@ pub enum Level {
     Postfix,
 }
 
-/// Whether the level takes the expression (ECMA-262, 12.3 to 12.16). What stands in it plays no part.
+/// Whether the level takes the expression (ECMA-262, 12.3 to 12.16). What stands in it plays no
+/// part.
 pub fn admits(level: Level, expr: &Expr) -> bool
     ensures { result ≡ takes level (seen expr.now).rank }
 {
@@ -65,7 +67,9 @@ fn rank(expr: &Expr) -> u32
             inner: _,
             close: _,
         } => 17,
-        Expr::Fun { function: _ } => 17,
+        Expr::Array { items: _ } => 17,
+        Expr::Object { properties: _ } => 17,
+        Expr::Fun { function } => function_rank(function.get()),
         Expr::Chain { head: _, tails: _ } => 17,
         Expr::New {
             word: _,
@@ -78,6 +82,33 @@ fn rank(expr: &Expr) -> u32
             dot: _,
             target: _,
         } => 17,
+    }
+}
+
+// The rank of an arrow is that of an assignment.
+const ARROW: u32 = 1;
+
+// The rank of a function.
+fn function_rank(function: &Function) -> u32
+    ensures { result ≡ function_kind_rank (out-Function function.now) }
+{
+    match function {
+        Function::Keyword {
+            word: _,
+            name: _,
+            params: _,
+            body: _,
+        } => 20,
+        Function::Arrow {
+            params: _,
+            arrow: _,
+            value: _,
+        } => ARROW,
+        Function::ArrowBlock {
+            params: _,
+            arrow: _,
+            body: _,
+        } => ARROW,
     }
 }
 
@@ -94,8 +125,8 @@ fn reaches(level: Level, rank: u32) -> bool
     }
 }
 
-/// Whether the expression is a target: a name, a chain that ends in a member, or a target in round brackets
-/// (ECMA-262, 12.15.3). The call goes as deep as round brackets are nested.
+/// Whether the expression is a target: a name, a chain that ends in a member, or a target in round
+/// brackets (ECMA-262, 12.15.3). The call goes as deep as round brackets are nested.
 pub fn is_target(expr: &Expr) -> bool
     ensures { result ≡ (seen expr.now).is_target }
 {
@@ -117,6 +148,8 @@ fn is_place(expr: &Expr) -> bool
         Expr::This(_) => false,
         Expr::Literal(_) => false,
         Expr::Template(_) => false,
+        Expr::Array { items: _ } => false,
+        Expr::Object { properties: _ } => false,
         Expr::Fun { function: _ } => false,
         Expr::New {
             word: _,

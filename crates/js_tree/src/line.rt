@@ -1,20 +1,15 @@
 //! The line of a node of any kind: its tokens and the nodes in it, in the order of the text.
-ghost use Rattle.std.specs.Prelude.{◌≡◌, ◌++◌, ◌∷◌, [], map, OnOk};
-ghost use Rattle.js_tree.specs.Parts.{node_of};
-ghost use Rattle.js_tree.specs.Line.{AToken, ANode, item_of, line_of};
-ghost use Rattle.js_tree.specs.Parts.{AnExpr, AFunction, APattern, AStmt, ASlot, ATail};
-ghost use Rattle.js_tree.specs.Line.{given_marks, items};
+ghost use Rattle.std.specs.Prelude.{◌≡◌, ◌++◌, ◌∷◌, map, OnOk};
+ghost use Rattle.js_tree.specs.Adds.{Adds};
+ghost use Rattle.js_tree.specs.Line.{AToken, ANode, given_marks, item_of, items, line_of, line_row};
+ghost use Rattle.js_tree.specs.Parts.{AnExpr, AFunction, AKey, APattern, APatternProperty, AProperty, AStmt, ASlot, node_of};
 ghost use Rattle.js_tree.specs.Spelling.Rows.{tail_row};
 
-use crate::line_bracket::push_bracket;
-use crate::line_list::{
-    push_body, push_chain, push_choice, push_init, push_keyword, push_new, push_possible,
-    push_return, push_several, push_template, push_vars,
-};
+use crate::in_line::{InLine, push_each, push_tails};
 use crate::lists::Tail;
 use crate::node::Node;
 use crate::token::Token;
-use crate::tree::{Expr, Function, Pattern, Slot, Stmt};
+use crate::tree::{Expr, Function, Key, Pattern, PatternProperty, Property, Slot, Stmt};
 use jam_base::OutOfMemory;
 use sqlite_items::Boxed;
 
@@ -29,12 +24,24 @@ pub enum LineItem<'t> {
 
 /// Adds the line of a node.
 pub fn push_line<'t>(node: Node<'t>, out: &mut Vec<LineItem<'t>>) -> Result<(), OutOfMemory>
-    ensures { OnOk result (map item_of out.new.items ≡ map item_of out.old.items ++ line_of (node_of node.entry)) }
+    ensures { OnOk result (map item_of out.new.items
+        ≡ map item_of out.old.items ++ line_of (node_of node.entry)) }
+{
+    push_row(node, out)
+}
+
+// The same, whatever follows.
+fn push_row<'t>(node: Node<'t>, out: &mut Vec<LineItem<'t>>) -> Result<(), OutOfMemory>
+    ensures { OnOk result (Adds item_of (line_row (node_of node.entry))
+        out.old.items out.new.items) }
 {
     match node {
         Node::Expr(value) => push_expr(value, out),
         Node::Function(function) => push_function(function, out),
+        Node::Key(key) => push_key(key, out),
         Node::Pattern(pattern) => push_pattern(pattern, out),
+        Node::PatternProperty(property) => push_pattern_property(property, out),
+        Node::Property(property) => push_property(property, out),
         Node::Stmt(statement) => push_stmt(statement, out),
         Node::Slot(slot) => push_slot(slot, out),
         Node::Tail {
@@ -42,31 +49,41 @@ pub fn push_line<'t>(node: Node<'t>, out: &mut Vec<LineItem<'t>>) -> Result<(), 
             before: _,
             tail,
         } => push_tail(tail, out),
-        Node::Body(body) => push_body(body, out),
+        Node::Body(body) => push_each(body, out),
     }
 }
 
 fn push_expr<'t>(value: &'t Expr, out: &mut Vec<LineItem<'t>>) -> Result<(), OutOfMemory>
-    ensures { OnOk result (map item_of out.new.items ≡ map item_of out.old.items ++ line_of (AnExpr value.now)) }
+    ensures { OnOk result (Adds item_of (line_row (AnExpr value.now)) out.old.items out.new.items) }
 {
     match value {
         Expr::Name(token) => push_token(token, out),
         Expr::This(token) => push_token(token, out),
         Expr::Literal(token) => push_token(token, out),
-        Expr::Template(template) => push_template(template, out),
+        Expr::Template(template) => template.push_items(out),
         Expr::Paren { open, inner, close } => {
             push_token(open, out)?;
             push_node(Node::Expr(inner.get()), out)?;
             push_token(close, out)
         }
+        Expr::Array { items } => items.push_items(out),
+        Expr::Object { properties } => properties.push_items(out),
         Expr::Fun { function } => push_node(Node::Function(function.get()), out),
-        Expr::Chain { head, tails } => push_chain(head.get(), tails.as_slice(), out),
+        Expr::Chain { head, tails } => {
+            push_node(Node::Expr(head.get()), out)?;
+            push_tails(head.get(), tails.as_slice(), out)
+        }
         Expr::New {
             word,
             head,
             tails,
             args,
-        } => push_new(word, head.get(), tails.as_slice(), args, out),
+        } => {
+            push_token(word, out)?;
+            push_node(Node::Expr(head.get()), out)?;
+            push_tails(head.get(), tails.as_slice(), out)?;
+            args.push_items(out)
+        }
         Expr::NewTarget { word, dot, target } => {
             push_token(word, out)?;
             push_token(dot, out)?;
@@ -89,19 +106,29 @@ fn push_expr<'t>(value: &'t Expr, out: &mut Vec<LineItem<'t>>) -> Result<(), Out
             level: _,
             first,
             rest,
-        } => push_several(first.get(), rest.as_slice(), out),
-        Expr::Cond { arms, last } => push_choice(arms.as_slice(), last.get(), out),
+        } => {
+            push_node(Node::Expr(first.get()), out)?;
+            push_each(rest.as_slice(), out)
+        }
+        Expr::Cond { arms, last } => {
+            push_each(arms.as_slice(), out)?;
+            push_node(Node::Expr(last.get()), out)
+        }
         Expr::Assign { target, op, value } => {
             push_node(Node::Pattern(target.get()), out)?;
             push_token(op, out)?;
             push_node(Node::Expr(value.get()), out)
         }
-        Expr::Comma { first, rest } => push_several(first.get(), rest.as_slice(), out),
+        Expr::Comma { first, rest } => {
+            push_node(Node::Expr(first.get()), out)?;
+            push_each(rest.as_slice(), out)
+        }
     }
 }
 
 fn push_function<'t>(function: &'t Function, out: &mut Vec<LineItem<'t>>) -> Result<(), OutOfMemory>
-    ensures { OnOk result (map item_of out.new.items ≡ map item_of out.old.items ++ line_of (AFunction function.now)) }
+    ensures { OnOk result (Adds item_of (line_row (AFunction function.now))
+        out.old.items out.new.items) }
 {
     match function {
         Function::Keyword {
@@ -109,12 +136,49 @@ fn push_function<'t>(function: &'t Function, out: &mut Vec<LineItem<'t>>) -> Res
             name,
             params,
             body,
-        } => push_keyword(word, name, params, body, out),
+        } => {
+            push_token(word, out)?;
+            name.push_items(out)?;
+            params.push_items(out)?;
+            body.push_items(out)
+        }
+        Function::Arrow {
+            params,
+            arrow,
+            value,
+        } => {
+            params.push_items(out)?;
+            push_token(arrow, out)?;
+            push_node(Node::Expr(value.get()), out)
+        }
+        Function::ArrowBlock {
+            params,
+            arrow,
+            body,
+        } => {
+            params.push_items(out)?;
+            push_token(arrow, out)?;
+            body.push_items(out)
+        }
+    }
+}
+
+fn push_key<'t>(key: &'t Key, out: &mut Vec<LineItem<'t>>) -> Result<(), OutOfMemory>
+    ensures { OnOk result (Adds item_of (line_row (AKey key.now)) out.old.items out.new.items) }
+{
+    match key {
+        Key::Fixed(token) => push_token(token, out),
+        Key::Computed { open, value, close } => {
+            push_token(open, out)?;
+            push_node(Node::Expr(value.get()), out)?;
+            push_token(close, out)
+        }
     }
 }
 
 fn push_pattern<'t>(pattern: &'t Pattern, out: &mut Vec<LineItem<'t>>) -> Result<(), OutOfMemory>
-    ensures { OnOk result (map item_of out.new.items ≡ map item_of out.old.items ++ line_of (APattern pattern.now)) }
+    ensures { OnOk result (Adds item_of (line_row (APattern pattern.now))
+        out.old.items out.new.items) }
 {
     match pattern {
         Pattern::Name(token) => push_token(token, out),
@@ -124,40 +188,92 @@ fn push_pattern<'t>(pattern: &'t Pattern, out: &mut Vec<LineItem<'t>>) -> Result
             push_node(Node::Pattern(inner.get()), out)?;
             push_token(close, out)
         }
+        Pattern::Array { slots } => slots.push_items(out),
+        Pattern::Object { properties } => properties.push_items(out),
+    }
+}
+
+fn push_pattern_property<'t>(
+    property: &'t PatternProperty,
+    out: &mut Vec<LineItem<'t>>,
+) -> Result<(), OutOfMemory>
+    ensures { OnOk result (Adds item_of (line_row (APatternProperty property.now))
+        out.old.items out.new.items) }
+{
+    match property {
+        PatternProperty::Keyed { key, colon, slot } => {
+            push_node(Node::Key(key), out)?;
+            push_token(colon, out)?;
+            push_node(Node::Slot(slot), out)
+        }
+        PatternProperty::Named { slot } => push_node(Node::Slot(slot), out),
+        PatternProperty::Rest { dots, slot } => {
+            push_token(dots, out)?;
+            push_node(Node::Slot(slot), out)
+        }
+    }
+}
+
+fn push_property<'t>(property: &'t Property, out: &mut Vec<LineItem<'t>>) -> Result<(), OutOfMemory>
+    ensures { OnOk result (Adds item_of (line_row (AProperty property.now))
+        out.old.items out.new.items) }
+{
+    match property {
+        Property::Pair { key, colon, value } => {
+            push_node(Node::Key(key), out)?;
+            push_token(colon, out)?;
+            push_node(Node::Expr(value.get()), out)
+        }
+        Property::Shorthand { value } => push_node(Node::Expr(value.get()), out),
+        Property::Spread { dots, value } => {
+            push_token(dots, out)?;
+            push_node(Node::Expr(value.get()), out)
+        }
     }
 }
 
 fn push_stmt<'t>(statement: &'t Stmt, out: &mut Vec<LineItem<'t>>) -> Result<(), OutOfMemory>
-    ensures { OnOk result (map item_of out.new.items ≡ map item_of out.old.items ++ line_of (AStmt statement.now)) }
+    ensures { OnOk result (Adds item_of (line_row (AStmt statement.now))
+        out.old.items out.new.items) }
 {
     match statement {
         Stmt::Plain { value, semi } => {
             push_node(Node::Expr(value.get()), out)?;
-            push_possible(semi, out)
+            semi.push_items(out)
         }
         Stmt::Vars {
             word,
             first,
             rest,
             semi,
-        } => push_vars(word, first, rest.as_slice(), semi, out),
-        Stmt::Return { word, value, semi } => push_return(word, value, semi, out),
+        } => {
+            push_token(word, out)?;
+            push_node(Node::Slot(first), out)?;
+            push_each(rest.as_slice(), out)?;
+            semi.push_items(out)
+        }
+        Stmt::Return { word, value, semi } => {
+            push_token(word, out)?;
+            value.push_items(out)?;
+            semi.push_items(out)
+        }
         Stmt::Fun { function } => push_node(Node::Function(function.get()), out),
     }
 }
 
 fn push_slot<'t>(slot: &'t Slot, out: &mut Vec<LineItem<'t>>) -> Result<(), OutOfMemory>
-    ensures { OnOk result (map item_of out.new.items ≡ map item_of out.old.items ++ line_of (ASlot slot.now)) }
+    ensures { OnOk result (Adds item_of (line_row (ASlot slot.now)) out.old.items out.new.items) }
 {
     push_node(Node::Pattern(&slot.target), out)?;
-    push_init(&slot.init, out)
+    slot.init.push_items(out)
 }
 
 fn push_tail<'t>(
     tail: &'t Tail<Boxed<Expr>>,
     out: &mut Vec<LineItem<'t>>,
 ) -> Result<(), OutOfMemory>
-    ensures { OnOk result (map item_of out.new.items ≡ map item_of out.old.items ++ tail_row given_marks items.expr tail.now []) }
+    ensures { OnOk result (Adds item_of (tail_row given_marks items.expr tail.now)
+        out.old.items out.new.items) }
 {
     match tail {
         Tail::Member { dot, name } => {
@@ -169,14 +285,15 @@ fn push_tail<'t>(
             push_node(Node::Expr(value.get()), out)?;
             push_token(close, out)
         }
-        Tail::Call(arguments) => push_bracket(arguments, out),
-        Tail::Template(template) => push_template(template, out),
+        Tail::Call(arguments) => arguments.push_items(out),
+        Tail::Template(template) => template.push_items(out),
     }
 }
 
 /// Adds a token.
 pub fn push_token<'t>(token: &'t Token, out: &mut Vec<LineItem<'t>>) -> Result<(), OutOfMemory>
-    ensures { OnOk result (map item_of out.new.items ≡ map item_of out.old.items ++ AToken token.now ∷ []) }
+    ensures { OnOk result (Adds item_of (λ rest. AToken token.now ∷ rest)
+        out.old.items out.new.items) }
 {
     out.push(LineItem::Token(token))?;
     Ok(())
@@ -184,7 +301,8 @@ pub fn push_token<'t>(token: &'t Token, out: &mut Vec<LineItem<'t>>) -> Result<(
 
 /// Adds a node.
 pub fn push_node<'t>(node: Node<'t>, out: &mut Vec<LineItem<'t>>) -> Result<(), OutOfMemory>
-    ensures { OnOk result (map item_of out.new.items ≡ map item_of out.old.items ++ ANode (node_of node.entry) ∷ []) }
+    ensures { OnOk result (Adds item_of (λ rest. ANode (node_of node.entry) ∷ rest)
+        out.old.items out.new.items) }
 {
     out.push(LineItem::Node(node))?;
     Ok(())

@@ -40,17 +40,26 @@ pub struct Element<T> {
     pub value: T,
 }
 
-/// Items by commas in brackets.
+/// Items by commas in brackets of one kind.
 #[derive(Debug, Drop)]
-pub struct Bracket<T> {
-    /// `(`
+pub struct Bracket<I> {
+    /// The bracket that opens.
     pub open: Token,
     /// The items with a comma behind them, from left to right.
-    pub front: Items<Listed<Element<T>>>,
+    pub front: Items<Listed<I>>,
     /// The item without one, where the last has none.
-    pub last: Option<Element<T>>,
-    /// `)`
+    pub last: Option<I>,
+    /// The bracket that closes.
     pub close: Token,
+}
+
+/// The parameters of an arrow.
+#[derive(Debug, Drop)]
+pub enum ArrowParams<L> {
+    /// A name without brackets.
+    Bare(L),
+    /// Parameters in brackets.
+    Round(Bracket<Element<L>>),
 }
 
 /// What a slot is given.
@@ -91,7 +100,7 @@ pub enum Tail<E> {
         close: Token,
     },
     /// A call with these arguments.
-    Call(Bracket<E>),
+    Call(Bracket<Element<E>>),
     /// A call with this template.
     Template(Template<E>),
 }

@@ -1,15 +1,13 @@
 //! Nodes of any kind, and their parts.
-ghost use Rattle.std.specs.Prelude.{◌≡◌, ◌++◌, ◌∷◌, [], map, OnOk};
-ghost use Rattle.js_tree.specs.Parts.{AnExpr, AFunction, APattern, AStmt, ASlot, node_of, nodes, parts};
+ghost use Rattle.std.specs.Prelude.{◌≡◌, ◌++◌, ◌∷◌, map, OnOk};
+ghost use Rattle.js_tree.specs.Adds.{Adds};
+ghost use Rattle.js_tree.specs.Parts.{AnExpr, AFunction, AKey, APattern, APatternProperty, AProperty, AStmt, ASlot, node_of, nodes, parts, parts_row};
 ghost use Rattle.js_tree.specs.Spelling.Rows.{tail_row};
 ghost use Rattle.js_tree.specs.Spelling.Nodes.{unmarked};
 
+use crate::in_node::{InNode, push_each, push_tails};
 use crate::lists::Tail;
-use crate::node_list::{
-    push_bracket, push_chain, push_choice, push_further_slots, push_keyword, push_new,
-    push_several, push_stmts, push_template, push_two, push_value,
-};
-use crate::tree::{Expr, Function, Pattern, Slot, Stmt};
+use crate::tree::{Expr, Function, Key, Pattern, PatternProperty, Property, Slot, Stmt};
 use jam_base::OutOfMemory;
 use sqlite_items::Boxed;
 
@@ -20,8 +18,14 @@ pub enum Node<'t> {
     Expr(&'t Expr),
     /// A function.
     Function(&'t Function),
+    /// A key.
+    Key(&'t Key),
     /// A pattern.
     Pattern(&'t Pattern),
+    /// A property in a pattern.
+    PatternProperty(&'t PatternProperty),
+    /// A property of an object.
+    Property(&'t Property),
     /// A statement.
     Stmt(&'t Stmt),
     /// A slot.
@@ -41,44 +45,66 @@ pub enum Node<'t> {
 
 /// Adds the parts of a node, in the order of the text.
 pub fn push_parts<'t>(node: Node<'t>, out: &mut Vec<Node<'t>>) -> Result<(), OutOfMemory>
-    ensures { OnOk result (map node_of out.new.items ≡ map node_of out.old.items ++ parts (node_of node.entry)) }
+    ensures { OnOk result (map node_of out.new.items
+        ≡ map node_of out.old.items ++ parts (node_of node.entry)) }
+{
+    push_row(node, out)
+}
+
+// The same, whatever follows.
+fn push_row<'t>(node: Node<'t>, out: &mut Vec<Node<'t>>) -> Result<(), OutOfMemory>
+    ensures { OnOk result (Adds node_of (parts_row (node_of node.entry))
+        out.old.items out.new.items) }
 {
     match node {
-        Node::Expr(value) => push_expr_parts(value, out),
-        Node::Function(function) => push_function_parts(function, out),
-        Node::Pattern(pattern) => push_pattern_parts(pattern, out),
-        Node::Stmt(statement) => push_stmt_parts(statement, out),
-        Node::Slot(slot) => push_slot_parts(slot, out),
+        Node::Expr(value) => push_in_expr(value, out),
+        Node::Function(function) => push_in_function(function, out),
+        Node::Key(key) => push_in_key(key, out),
+        Node::Pattern(pattern) => push_in_pattern(pattern, out),
+        Node::PatternProperty(property) => push_in_pattern_property(property, out),
+        Node::Property(property) => push_in_property(property, out),
+        Node::Stmt(statement) => push_in_stmt(statement, out),
+        Node::Slot(slot) => push_in_slot(slot, out),
         Node::Tail {
             head: _,
             before: _,
             tail,
-        } => push_tail_parts(tail, out),
-        Node::Body(body) => push_stmts(body, out),
+        } => push_in_tail(tail, out),
+        Node::Body(body) => push_each(body, out),
     }
 }
 
-fn push_expr_parts<'t>(value: &'t Expr, out: &mut Vec<Node<'t>>) -> Result<(), OutOfMemory>
-    ensures { OnOk result (map node_of out.new.items ≡ map node_of out.old.items ++ parts (AnExpr value.now)) }
+fn push_in_expr<'t>(value: &'t Expr, out: &mut Vec<Node<'t>>) -> Result<(), OutOfMemory>
+    ensures { OnOk result (Adds node_of (parts_row (AnExpr value.now))
+        out.old.items out.new.items) }
 {
     match value {
         Expr::Name(_) => Ok(()),
         Expr::This(_) => Ok(()),
         Expr::Literal(_) => Ok(()),
-        Expr::Template(template) => push_template(template, out),
+        Expr::Template(template) => template.push_nodes(out),
         Expr::Paren {
             open: _,
             inner,
             close: _,
         } => push(Node::Expr(inner.get()), out),
+        Expr::Array { items } => items.push_nodes(out),
+        Expr::Object { properties } => properties.push_nodes(out),
         Expr::Fun { function } => push(Node::Function(function.get()), out),
-        Expr::Chain { head, tails } => push_chain(head.get(), tails.as_slice(), out),
+        Expr::Chain { head, tails } => {
+            push(Node::Expr(head.get()), out)?;
+            push_tails(head.get(), tails.as_slice(), out)
+        }
         Expr::New {
             word: _,
             head,
             tails,
             args,
-        } => push_new(head.get(), tails.as_slice(), args, out),
+        } => {
+            push(Node::Expr(head.get()), out)?;
+            push_tails(head.get(), tails.as_slice(), out)?;
+            args.push_nodes(out)
+        }
         Expr::NewTarget {
             word: _,
             dot: _,
@@ -90,27 +116,40 @@ fn push_expr_parts<'t>(value: &'t Expr, out: &mut Vec<Node<'t>>) -> Result<(), O
             base,
             op: _,
             exponent,
-        } => push_two(Node::Expr(base.get()), Node::Expr(exponent.get()), out),
+        } => {
+            push(Node::Expr(base.get()), out)?;
+            push(Node::Expr(exponent.get()), out)
+        }
         Expr::Binary {
             level: _,
             first,
             rest,
-        } => push_several(first.get(), rest.as_slice(), out),
-        Expr::Cond { arms, last } => push_choice(arms.as_slice(), last.get(), out),
+        } => {
+            push(Node::Expr(first.get()), out)?;
+            push_each(rest.as_slice(), out)
+        }
+        Expr::Cond { arms, last } => {
+            push_each(arms.as_slice(), out)?;
+            push(Node::Expr(last.get()), out)
+        }
         Expr::Assign {
             target,
             op: _,
             value,
-        } => push_two(Node::Pattern(target.get()), Node::Expr(value.get()), out),
-        Expr::Comma { first, rest } => push_several(first.get(), rest.as_slice(), out),
+        } => {
+            push(Node::Pattern(target.get()), out)?;
+            push(Node::Expr(value.get()), out)
+        }
+        Expr::Comma { first, rest } => {
+            push(Node::Expr(first.get()), out)?;
+            push_each(rest.as_slice(), out)
+        }
     }
 }
 
-fn push_function_parts<'t>(
-    function: &'t Function,
-    out: &mut Vec<Node<'t>>,
-) -> Result<(), OutOfMemory>
-    ensures { OnOk result (map node_of out.new.items ≡ map node_of out.old.items ++ parts (AFunction function.now)) }
+fn push_in_function<'t>(function: &'t Function, out: &mut Vec<Node<'t>>) -> Result<(), OutOfMemory>
+    ensures { OnOk result (Adds node_of (parts_row (AFunction function.now))
+        out.old.items out.new.items) }
 {
     match function {
         Function::Keyword {
@@ -118,12 +157,45 @@ fn push_function_parts<'t>(
             name: _,
             params,
             body,
-        } => push_keyword(params, body.body.as_slice(), out),
+        } => {
+            params.push_nodes(out)?;
+            body.push_nodes(out)
+        }
+        Function::Arrow {
+            params,
+            arrow: _,
+            value,
+        } => {
+            params.push_nodes(out)?;
+            push(Node::Expr(value.get()), out)
+        }
+        Function::ArrowBlock {
+            params,
+            arrow: _,
+            body,
+        } => {
+            params.push_nodes(out)?;
+            body.push_nodes(out)
+        }
     }
 }
 
-fn push_pattern_parts<'t>(pattern: &'t Pattern, out: &mut Vec<Node<'t>>) -> Result<(), OutOfMemory>
-    ensures { OnOk result (map node_of out.new.items ≡ map node_of out.old.items ++ parts (APattern pattern.now)) }
+fn push_in_key<'t>(key: &'t Key, out: &mut Vec<Node<'t>>) -> Result<(), OutOfMemory>
+    ensures { OnOk result (Adds node_of (parts_row (AKey key.now)) out.old.items out.new.items) }
+{
+    match key {
+        Key::Fixed(_) => Ok(()),
+        Key::Computed {
+            open: _,
+            value,
+            close: _,
+        } => push(Node::Expr(value.get()), out),
+    }
+}
+
+fn push_in_pattern<'t>(pattern: &'t Pattern, out: &mut Vec<Node<'t>>) -> Result<(), OutOfMemory>
+    ensures { OnOk result (Adds node_of (parts_row (APattern pattern.now))
+        out.old.items out.new.items) }
 {
     match pattern {
         Pattern::Name(_) => Ok(()),
@@ -133,11 +205,53 @@ fn push_pattern_parts<'t>(pattern: &'t Pattern, out: &mut Vec<Node<'t>>) -> Resu
             inner,
             close: _,
         } => push(Node::Pattern(inner.get()), out),
+        Pattern::Array { slots } => slots.push_nodes(out),
+        Pattern::Object { properties } => properties.push_nodes(out),
     }
 }
 
-fn push_stmt_parts<'t>(statement: &'t Stmt, out: &mut Vec<Node<'t>>) -> Result<(), OutOfMemory>
-    ensures { OnOk result (map node_of out.new.items ≡ map node_of out.old.items ++ parts (AStmt statement.now)) }
+fn push_in_pattern_property<'t>(
+    property: &'t PatternProperty,
+    out: &mut Vec<Node<'t>>,
+) -> Result<(), OutOfMemory>
+    ensures { OnOk result (Adds node_of (parts_row (APatternProperty property.now))
+        out.old.items out.new.items) }
+{
+    match property {
+        PatternProperty::Keyed {
+            key,
+            colon: _,
+            slot,
+        } => {
+            push(Node::Key(key), out)?;
+            push(Node::Slot(slot), out)
+        }
+        PatternProperty::Named { slot } => push(Node::Slot(slot), out),
+        PatternProperty::Rest { dots: _, slot } => push(Node::Slot(slot), out),
+    }
+}
+
+fn push_in_property<'t>(property: &'t Property, out: &mut Vec<Node<'t>>) -> Result<(), OutOfMemory>
+    ensures { OnOk result (Adds node_of (parts_row (AProperty property.now))
+        out.old.items out.new.items) }
+{
+    match property {
+        Property::Pair {
+            key,
+            colon: _,
+            value,
+        } => {
+            push(Node::Key(key), out)?;
+            push(Node::Expr(value.get()), out)
+        }
+        Property::Shorthand { value } => push(Node::Expr(value.get()), out),
+        Property::Spread { dots: _, value } => push(Node::Expr(value.get()), out),
+    }
+}
+
+fn push_in_stmt<'t>(statement: &'t Stmt, out: &mut Vec<Node<'t>>) -> Result<(), OutOfMemory>
+    ensures { OnOk result (Adds node_of (parts_row (AStmt statement.now))
+        out.old.items out.new.items) }
 {
     match statement {
         Stmt::Plain { value, semi: _ } => push(Node::Expr(value.get()), out),
@@ -148,32 +262,27 @@ fn push_stmt_parts<'t>(statement: &'t Stmt, out: &mut Vec<Node<'t>>) -> Result<(
             semi: _,
         } => {
             push(Node::Slot(first), out)?;
-            push_further_slots(rest.as_slice(), out)
+            push_each(rest.as_slice(), out)
         }
         Stmt::Return {
             word: _,
             value,
             semi: _,
-        } => push_value(value, out),
+        } => value.push_nodes(out),
         Stmt::Fun { function } => push(Node::Function(function.get()), out),
     }
 }
 
-fn push_slot_parts<'t>(slot: &'t Slot, out: &mut Vec<Node<'t>>) -> Result<(), OutOfMemory>
-    ensures { OnOk result (map node_of out.new.items ≡ map node_of out.old.items ++ parts (ASlot slot.now)) }
+fn push_in_slot<'t>(slot: &'t Slot, out: &mut Vec<Node<'t>>) -> Result<(), OutOfMemory>
+    ensures { OnOk result (Adds node_of (parts_row (ASlot slot.now)) out.old.items out.new.items) }
 {
     push(Node::Pattern(&slot.target), out)?;
-    match &slot.init {
-        None => Ok(()),
-        Some(init) => push(Node::Expr(init.value.get()), out),
-    }
+    slot.init.push_nodes(out)
 }
 
-fn push_tail_parts<'t>(
-    tail: &'t Tail<Boxed<Expr>>,
-    out: &mut Vec<Node<'t>>,
-) -> Result<(), OutOfMemory>
-    ensures { OnOk result (map node_of out.new.items ≡ map node_of out.old.items ++ tail_row unmarked nodes.expr tail.now []) }
+fn push_in_tail<'t>(tail: &'t Tail<Boxed<Expr>>, out: &mut Vec<Node<'t>>) -> Result<(), OutOfMemory>
+    ensures { OnOk result (Adds node_of (tail_row unmarked nodes.expr tail.now)
+        out.old.items out.new.items) }
 {
     match tail {
         Tail::Member { dot: _, name: _ } => Ok(()),
@@ -182,13 +291,15 @@ fn push_tail_parts<'t>(
             value,
             close: _,
         } => push(Node::Expr(value.get()), out),
-        Tail::Call(arguments) => push_bracket(arguments, out),
-        Tail::Template(template) => push_template(template, out),
+        Tail::Call(arguments) => arguments.push_nodes(out),
+        Tail::Template(template) => template.push_nodes(out),
     }
 }
 
+/// Adds a node.
 pub fn push<'t>(node: Node<'t>, out: &mut Vec<Node<'t>>) -> Result<(), OutOfMemory>
-    ensures { OnOk result (map node_of out.new.items ≡ map node_of out.old.items ++ node_of node.entry ∷ []) }
+    ensures { OnOk result (Adds node_of (λ rest. node_of node.entry ∷ rest)
+        out.old.items out.new.items) }
 {
     out.push(node)?;
     Ok(())

@@ -1,14 +1,15 @@
 -- What is asked of tails (ECMA-262, 12.3).
-use Rattle.std.specs.Prelude.{List, [], ◌∷◌, Bool, true, false, not}
+use Rattle.std.specs.Prelude.{List, [], ◌∷◌, Bool, true, false}
 use Rattle.std.specs.List.{list_all}
 use Rattle.js_tree.specs.declared.lists.Bracket.{Bracket}
+use Rattle.js_tree.specs.declared.lists.Element.{Element}
 use Rattle.js_tree.specs.declared.lists.Tail.{Tail}
 use Rattle.js_tree.specs.declared.lists.Tail.TheVariants as tail
 use Rattle.js_tree.specs.declared.lists.Template.{Template}
 use Rattle.js_tree.specs.Spelling.Nodes.{Seen, ASSIGN, stands, all_within}
 
 -- each argument is an Assign, behind `...` or not
-abbrev pub arguments_fit : Bracket Seen → Bool
+abbrev pub arguments_fit : Bracket (Element Seen) → Bool
 arguments_fit = all_within (λ x. stands ASSIGN x.value)
 
 -- each substitution is a Comma

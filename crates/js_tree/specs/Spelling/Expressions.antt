@@ -6,24 +6,27 @@ use Rattle.js_tree.specs.declared.lists.Arm.{Arm}
 use Rattle.js_tree.specs.declared.lists.Further.{Further}
 use Rattle.js_tree.specs.declared.token_kind.TokenKind.TheVariants as kind
 use Rattle.js_tree.specs.declared.tree.Expr.TheOpen.{Expr-F}
+use Rattle.js_tree.specs.Folds.{ExprOf}
 use Rattle.js_tree.specs.Operators.{is_assignment, is_binary, is_literal, is_unary, is_update, on_line}
 use Rattle.js_tree.specs.Pieces.{kind as kind_at}
 use Rattle.js_tree.specs.TokenKinds.{is}
 use Rattle.js_tree.specs.Spelling.Chains.{arguments_fit, template_fits, tail_fits, is_call, calls, ends_in_member}
-use Rattle.js_tree.specs.Spelling.Rows.{Writer, mark, each_of, maybe, further_row, bracket_row, template_row, arm_row}
-use Rattle.js_tree.specs.Spelling.Nodes.{Seen, Ending, AfterOperand, AfterUpdate, ASSIGN, COND, BINARY, LEVELS, POWER, UNARY, UPDATE, POSTFIX, CHAIN, NEW, MADE, PRIMARY, binary_rank, stands, is_empty, passes, all_further, last_ending, some_joins_in, is_named, musts, lines, highest_of, some_has}
+use Rattle.js_tree.specs.Spelling.Rows.{Writer, mark, each_of, maybe, further_row, round_row, array_row, object_row, template_row, arm_row}
+use Rattle.js_tree.specs.Spelling.Nodes.{Seen, Ending, AfterOperand, AfterUpdate, ASSIGN, COND, BINARY, LEVELS, POWER, UNARY, UPDATE, POSTFIX, CHAIN, NEW, MADE, PRIMARY, binary_rank, stands, is_empty, passes, all_within, array_fits, all_further, last_ending, some_joins_in, is_named, musts, lines, highest_of, some_has}
 
 -- SPELLING, one line for each kind
 
-abbrev pub expr_row : {E F P S L R : Type 0} → Writer E F P S L R → Expr-F E F P S L → R → R
+abbrev pub expr_row : {E F K P Q O S L R : Type 0} → Writer E F K P Q O S L R → Expr-F E F K P Q O S L → R → R
 expr_row w (Expr-F.«Expr::Name» t) rest = mark w.marks kind.Name t rest
 expr_row w (Expr-F.This t) rest = mark w.marks kind.This t rest
 expr_row w (Expr-F.Literal t) rest = w.marks.token is_literal t rest
 expr_row w (Expr-F.Template t) rest = template_row w.marks w.expr t rest
 expr_row w (Expr-F.«Expr::Paren» begin inner end) rest = mark w.marks kind.LeftParen begin (w.expr inner (mark w.marks kind.RightParen end rest))
+expr_row w (Expr-F.«Expr::Array» items) rest = array_row w.marks w.expr items rest
+expr_row w (Expr-F.«Expr::Object» properties) rest = object_row w.marks w.property properties rest
 expr_row w (Expr-F.«Expr::Fun» function) rest = w.function function rest
 expr_row w (Expr-F.Chain head tails) rest = w.expr head (w.tails head tails rest)
-expr_row w (Expr-F.New word head tails args) rest = mark w.marks kind.New word (w.expr head (w.tails head tails (maybe (bracket_row w.marks w.expr) args rest)))
+expr_row w (Expr-F.New word head tails args) rest = mark w.marks kind.New word (w.expr head (w.tails head tails (maybe (round_row w.marks w.expr) args rest)))
 expr_row w (Expr-F.NewTarget word dot target) rest = mark w.marks kind.New word (mark w.marks kind.Dot dot (mark w.marks kind.Name target rest))
 expr_row w (Expr-F.Postfix target op) rest = w.expr target (w.marks.ahead on_line (w.marks.token is_update op rest))
 expr_row w (Expr-F.Unary op operand) rest = w.marks.token is_unary op (w.expr operand rest)
@@ -35,7 +38,7 @@ expr_row w (Expr-F.Comma first others) rest = w.expr first (each_of (further_row
 
 -- LEVELS: how tightly each kind holds together
 
-abbrev pub expr_rank : Expr-F Seen Seen Seen Seen Seen → ℕ
+abbrev pub expr_rank : ExprOf Seen → ℕ
 expr_rank (Expr-F.Comma first others) = 0
 expr_rank (Expr-F.Assign target op value) = ASSIGN
 expr_rank (Expr-F.Cond arms last) = COND
@@ -45,6 +48,7 @@ expr_rank (Expr-F.Unary op operand) = if is_update (kind_at op) then UPDATE else
 expr_rank (Expr-F.Postfix target op) = POSTFIX
 expr_rank (Expr-F.Chain head tails) = CHAIN
 expr_rank (Expr-F.New word head tails args) = if is_some args then MADE else NEW
+expr_rank (Expr-F.«Expr::Fun» function) = function.rank
 expr_rank _ = PRIMARY
 
 -- CONDITIONS
@@ -59,7 +63,7 @@ is_place x = x.is_sound && x.is_target
 
 -- A Chain has a tail, and it is no direct call of `eval`. The level of a Binary is one of ten. A New that has another without arguments as its head has neither tails nor arguments. The base of
 -- a Power is no Unary but `++` and `--`. An operand of a level is of a higher one. The last value of a Cond is no Cond
-abbrev pub expr_musts : Expr-F Seen Seen Seen Seen Seen → List Bool
+abbrev pub expr_musts : ExprOf Seen → List Bool
 expr_musts (Expr-F.Template t) = template_fits t ∷ []
 expr_musts (Expr-F.Chain head tails) =
     stands MADE head ∷ not (is_empty tails) ∷ not (is_named (codes "eval") head && calls tails) ∷ list_all tail_fits tails ∷ []
@@ -73,16 +77,20 @@ expr_musts (Expr-F.Binary level first others) = nat_le level LEVELS ∷ stands (
 expr_musts (Expr-F.Cond arms last) = not (is_empty arms) ∷ list_all arm_fits arms ∷ stands ASSIGN last ∷ not (last.rank == COND) ∷ []
 expr_musts _ = []
 
--- the same of those kinds whose tokens may turn out to be a pattern's: an operator but `=` needs a target, and a Comma has two expressions at least
-abbrev pub expr_sound : Expr-F Seen Seen Seen Seen Seen → Bool
+-- the same of those kinds whose tokens may turn out to be a pattern's or parameters: items are Assigns, an operator but `=` needs
+-- a target, and a Comma has two expressions at least
+abbrev pub expr_sound : ExprOf Seen → Bool
 expr_sound (Expr-F.«Expr::Paren» begin inner end) = inner.is_sound
+expr_sound (Expr-F.«Expr::Array» items) = array_fits (λ x. stands ASSIGN x.value) items
+expr_sound (Expr-F.«Expr::Object» properties) = all_within (λ x. x.is_sound) properties
 expr_sound (Expr-F.Assign target op value) = target.is_sound && (is kind.Assign (kind_at op) || target.is_target) && stands ASSIGN value
 expr_sound (Expr-F.Comma first others) = stands ASSIGN first && not (is_empty others) && all_further (stands ASSIGN) others
 expr_sound _ = true
 
 -- WHAT ELSE IS SEEN
 
-abbrev pub expr_ending : Expr-F Seen Seen Seen Seen Seen → Ending
+abbrev pub expr_ending : ExprOf Seen → Ending
+expr_ending (Expr-F.«Expr::Fun» function) = function.ending
 expr_ending (Expr-F.Postfix target op) = AfterUpdate
 expr_ending (Expr-F.Unary op operand) = operand.ending
 expr_ending (Expr-F.Power base op exponent) = exponent.ending
@@ -93,13 +101,13 @@ expr_ending (Expr-F.Comma first others) = last_ending first.ending others
 expr_ending _ = AfterOperand
 
 -- a target is a name, a chain that ends in a member, or a target in round brackets
-abbrev pub expr_target : Expr-F Seen Seen Seen Seen Seen → Bool
+abbrev pub expr_target : ExprOf Seen → Bool
 expr_target (Expr-F.«Expr::Name» t) = true
 expr_target (Expr-F.Chain head tails) = ends_in_member tails
 expr_target (Expr-F.«Expr::Paren» begin inner end) = inner.is_target
 expr_target _ = false
 
-abbrev pub expr_name : Expr-F Seen Seen Seen Seen Seen → Option (List ℕ)
+abbrev pub expr_name : ExprOf Seen → Option (List ℕ)
 expr_name (Expr-F.«Expr::Name» t) = Some t.text
 expr_name _ = None
 
@@ -113,7 +121,8 @@ abbrev pub some_arm_in : List (Arm Seen) → Bool
 some_arm_in [] = false
 some_arm_in (x ∷ xs) = x.test.joins_in || some_arm_in xs
 
-abbrev pub expr_joins_in : Expr-F Seen Seen Seen Seen Seen → Bool
+abbrev pub expr_joins_in : ExprOf Seen → Bool
+expr_joins_in (Expr-F.«Expr::Fun» function) = function.joins_in
 expr_joins_in (Expr-F.Unary op operand) = operand.joins_in
 expr_joins_in (Expr-F.Power base op exponent) = base.joins_in || exponent.joins_in
 expr_joins_in (Expr-F.Binary level first others) = some_in others || first.joins_in || some_joins_in others
@@ -123,11 +132,11 @@ expr_joins_in (Expr-F.Comma first others) = first.joins_in || some_joins_in othe
 expr_joins_in _ = false
 
 -- the name stands in it outside functions
-abbrev pub expr_names : (Seen → Bool) → List ℕ → Expr-F Seen Seen Seen Seen Seen → Bool
+abbrev pub expr_names : (Seen → Bool) → List ℕ → ExprOf Seen → Bool
 expr_names test text (Expr-F.«Expr::Name» t) = bytes_eq text t.text
 expr_names test text x = expr_row (some_has test) x false
 
-abbrev pub expr_step : Expr-F Seen Seen Seen Seen Seen → Seen
+abbrev pub expr_step : ExprOf Seen → Seen
 expr_step x = record {
   line = λ rest. musts (expr_musts x) (expr_row lines x rest);
   rank = expr_rank x;

@@ -1,5 +1,5 @@
 -- What is seen of a node, by which the nodes around it ask for it.
-use Rattle.std.specs.Prelude.{ℕ, ◌+◌, ◌==◌, max, nat_le, List, [], ◌∷◌, Option, Some, None, is_some, Bool, true, false, ◌&&◌, ◌||◌, not}
+use Rattle.std.specs.Prelude.{ℕ, ◌+◌, max, nat_le, List, [], ◌∷◌, Option, Some, None, is_some, Bool, true, false, ◌&&◌, ◌||◌, not}
 use Rattle.std.specs.List.{list_all}
 use Rattle.std.specs.Str.{bytes_eq}
 use Rattle.js_tree.specs.declared.level.Level.{Level}
@@ -7,22 +7,25 @@ use Rattle.js_tree.specs.declared.level.Level.TheVariants as level
 use Rattle.js_tree.specs.declared.lists.Bracket.{Bracket}
 use Rattle.js_tree.specs.declared.lists.Element.{Element}
 use Rattle.js_tree.specs.declared.lists.Further.{Further}
-use Rattle.js_tree.specs.declared.lists.Tail.{Tail}
 use Rattle.js_tree.specs.Pieces.{Piece, Tok, Must, Ahead, Onto}
-use Rattle.js_tree.specs.Spelling.Rows.{Marks, Writer, each_of, maybe, tail_row}
+use Rattle.js_tree.specs.Spelling.Rows.{Marks, WriterOf, each_of, maybe, tail_row}
 
--- with what an expression ends: an operand, `++` or `--` behind a target, or a name that is declared and given nothing
+-- with what an expression ends: an operand, `++` or `--` behind a target, the body of an arrow in braces, or what is declared
+-- and given nothing
 pub data Ending : Type 0 where
   AfterOperand : Ending
   AfterUpdate : Ending
+  AfterBlock : Ending
   AfterName : Ending
 
 -- what a node is to the nodes around it:
 -- its spelling;
--- how tightly an expression holds together (below); of a pattern and a slot, 1 where it may be assigned to, 2 where it may be declared too;
+-- how tightly an expression or a function holds together (below); of a pattern, a slot and a property in a pattern, 1 where it
+-- may be assigned to, 2 where it may be declared too;
 -- with what its last expression ends;
 -- that a node is as it must be whose own line doesn't say so, since its tokens may turn out to be those of another node;
--- that it may be assigned to by every operator; of a slot, that it is given nothing;
+-- that it may be assigned to by every operator; of a slot, that it is given nothing; of a property in a pattern, that it isn't
+-- the rest;
 -- the text of a name, of a function its own name;
 -- that an operator `in` stands in it outside brackets;
 -- that the names `yield` and `await`, and the operators, stand in it outside functions;
@@ -114,8 +117,24 @@ abbrev pub all_further : {X : Type 0} → (X → Bool) → List (Further X) → 
 all_further test = list_all (λ x. test x.item)
 
 -- each item in the brackets passes the test
-abbrev pub all_within : {X : Type 0} → (Element X → Bool) → Bracket X → Bool
+abbrev pub all_within : {I : Type 0} → (I → Bool) → Bracket I → Bool
 all_within test b = list_all (λ x. test x.item) b.front && passes test b.last
+
+-- each item but those with no comma behind them passes the test
+abbrev pub all_in_front : {I : Type 0} → (I → Bool) → Bracket I → Bool
+all_in_front test b = list_all (λ x. test x.item) b.front
+
+-- each item of an array that is no hole passes the test, and a hole has a comma behind it
+abbrev pub array_fits : {X : Type 0} → (X → Bool) → Bracket (Option X) → Bool
+array_fits test b = all_within (passes test) b && passes is_some b.last
+
+-- no `...` stands before the item
+abbrev pub is_plain : {X : Type 0} → Element X → Bool
+is_plain x = not (is_some x.dots)
+
+-- behind `...` stands a slot to which nothing is given
+abbrev pub rest_fits : Element Seen → Bool
+rest_fits x = is_plain x || x.value.is_target
 
 -- with what the last of several ends
 abbrev pub last_ending : Ending → List (Further Seen) → Ending
@@ -145,12 +164,15 @@ pieces = record { token = λ test t rest. Tok t test ∷ rest; option = λ test.
 abbrev pub seen_line : Seen → Onto
 seen_line x = x.line
 
-abbrev pub lines : Writer Seen Seen Seen Seen Seen (List Piece)
+abbrev pub lines : WriterOf Seen (List Piece)
 lines = record {
   marks = pieces;
   expr = seen_line;
   function = seen_line;
+  key = seen_line;
   pattern = seen_line;
+  pattern_property = seen_line;
+  property = seen_line;
   stmt = seen_line;
   slot = seen_line;
   tails = λ head. each_of (tail_row pieces seen_line);
@@ -160,21 +182,24 @@ lines = record {
 abbrev pub unmarked : {R : Type 0} → Marks R
 unmarked = record { token = λ test t rest. rest; option = λ test o rest. rest; ahead = λ c rest. rest }
 
-abbrev pub over_nodes : {A R : Type 0} → (A → R → R) → Writer A A A A A R
+abbrev pub over_nodes : {A R : Type 0} → (A → R → R) → WriterOf A R
 over_nodes put = record {
   marks = unmarked;
   expr = put;
   function = put;
+  key = put;
   pattern = put;
+  pattern_property = put;
+  property = put;
   stmt = put;
   slot = put;
   tails = λ head. each_of (tail_row unmarked put);
 }
 
 -- the height of the highest
-abbrev pub highest_of : Writer Seen Seen Seen Seen Seen ℕ
+abbrev pub highest_of : WriterOf Seen ℕ
 highest_of = over_nodes (λ x h. max x.height h)
 
 -- whether one of them has this
-abbrev pub some_has : (Seen → Bool) → Writer Seen Seen Seen Seen Seen Bool
+abbrev pub some_has : (Seen → Bool) → WriterOf Seen Bool
 some_has test = over_nodes (λ x b. test x || b)

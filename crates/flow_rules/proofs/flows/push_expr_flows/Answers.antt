@@ -27,7 +27,7 @@ returns-in-New c =
     let out = c.args.out.now.items in
     let n = c.in-New in
     on_ok_weaker c.push_made.result
-    (λ e. e ∙ (λ i. out ++ made_flows facts (c.get.ensures i) (c.as_slice.ensures i) n.word.start (made_with n.args))
+    (λ e. e ∙ (λ i. out ++ made_flows facts (c.get-in-New.ensures i) (c.as_slice.ensures i) n.word.start (made_with n.args))
     ∙ ap (λ l. out ++ expr_flows facts l) (sym (ap out-Expr n.is ∙ outs-New n.word n.head n.tails n.args)))
     c.push_made.ensures
 

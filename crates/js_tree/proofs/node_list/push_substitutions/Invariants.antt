@@ -1,9 +1,0 @@
-use Rattle.std.proofs.Common.{◌≡◌, ◌++◌, ◌∷◌, List, [], map, take}
-use Rattle.js_tree.specs.declared.lists.Listed.{Listed}
-use Rattle.js_tree.specs.declared.tree.Expr.{Expr}
-use Rattle.js_tree.specs.Parts.{Node, AnExpr, node_of}
-use Rattle.js_tree.specs.Spelling.Rows.{each_of}
-use Rattle.js_tree.proofs.node_list.push_substitutions.Given as goal
-
-abbrev pub invariant-loop-part : goal.invariant-loop-part
-invariant-loop-part l = map node_of l.out.items ≡ map node_of l.initial.out.items ++ each_of (λ (x : Listed Expr) (more : List Node). AnExpr x.item ∷ more) (take l.part-index l.parts) []
