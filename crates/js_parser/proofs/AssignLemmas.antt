@@ -1,5 +1,5 @@
 -- Targets as patterns, and what is assigned to them.
-use Rattle.std.proofs.Common.{◌≡◌, ℕ, zero, suc, ◌+◌, ◌<◌, ◌≤◌, ◌==◌, max, Bool, true, false, ◌&&◌, ◌||◌, List, ◌∷◌, Result, Ok, Err, IfOk, refl, sym, ap, ◌∙◌, subst, arith, true≢false}
+use Rattle.std.proofs.Common.{◌≡◌, ℕ, zero, suc, ◌+◌, ◌-◌, ◌<◌, ◌≤◌, ◌==◌, max, Bool, true, false, ◌&&◌, ◌||◌, List, ◌∷◌, Result, Ok, Err, IfOk, refl, sym, ap, ◌∙◌, subst, arith, true≢false}
 use Rattle.std.proofs.lemmas.Bool.{and_parts}
 use Rattle.std.specs.Prelude.{nat_le}
 use Rattle.std.proofs.lemmas.Bool.Decides.{nat_tests}
@@ -26,15 +26,16 @@ use Rattle.js_tokens.specs.Pieces.{Reads, Read, Refuses}
 use Rattle.js_tokens.specs.declared.fault.TokenFault.{TokenFault}
 use Rattle.js_tokens.specs.declared.fault.TokenFault.TheVariants as fault
 use Rattle.js_tokens.specs.declared.goal.Goal.TheVariants as goal
-use Rattle.js_parser.proofs.ExprLemmas.{node_of}
+use Rattle.js_parser.proofs.ExprLemmas.{node_of, value_at, value_of}
 use Rattle.js_parser.proofs.HeadLemmas.{rank_at}
 use Rattle.js_parser.proofs.LeadLemmas.{at_least}
 use Rattle.js_parser.proofs.MadeLemmas.{read_at, seen_at}
 use Rattle.js_parser.proofs.ReadLemmas.{IsWant}
 use Rattle.js_parser.proofs.StrengthLemmas.{of_assignment, plain_assignment}
 use Rattle.js_parser.proofs.TokenLemmas.{equal}
+use Rattle.js_parser.specs.Behind.{AssignsTo}
 use Rattle.js_parser.specs.Following.{IsStrength, Stops, strength}
-use Rattle.js_parser.specs.Nodes.{AssignsTo, Stays, Assigns, IsSeen, Makes, ValueAt, expr_line}
+use Rattle.js_parser.specs.Nodes.{IsSeen, Makes, ValueAt, expr_line}
 use Rattle.js_parser.specs.Patterns.{Covers, CoversName, CoversMember, CoversParen, MakesPattern}
 use Rattle.js_parser.specs.declared.tall.Value.{Value}
 
@@ -310,49 +311,16 @@ boxed x n p q same m = subst (λ (r : Pattern). Covers x r × (n ≡ (pattern r)
 
 -- WHAT STANDS BEHIND THE TARGET
 
--- the expression alone
-pub no_assigned : (head x : Value) (behind rest : List Piece) (m : Place) → (expr head.node).is_target ≡ false → AssignsTo head x behind rest → Reads m behind → (head ≡ x) × Reads m rest
-no_assigned head x behind rest m other (Stays e b) r = (sym e, subst (Reads m) b r)
-no_assigned head x behind rest m other (Assigns target op given e c b) r = let a = alike head.node target c in absurd (true≢false (sym a.target ∙ other))
+-- an operator that assigns stands next
+pub assign_told : (head x : Value) (behind rest : List Piece) → AssignsTo head x behind rest → (m : Place) (n : ℕ) → IsStrength m n → Reads m behind → n ≡ ASSIGN + 1
+assign_told head x behind rest w m n is r =
+    let q = subst (Reads m) w.behind r in
+    sym (is.all w.op q.0 q.1 (plain_assignment (kind_of w.op) q.2)) ∙ of_assignment (kind_of w.op) w.op.nl_before q.2
 
-pub no_operator : (head x : Value) (behind rest : List Piece) (m : Place) (n : ℕ) → IsStrength m n → (n ≡ 2 → ⊥) → AssignsTo head x behind rest → Reads m behind → (head ≡ x) × Reads m rest
-no_operator head x behind rest m n is other (Stays e b) r = (sym e, subst (Reads m) b r)
-no_operator head x behind rest m n is other (Assigns target op given e c b) r =
-    let q = subst (Reads m) b r in
-    absurd (other (sym (is.all op q.0 q.1 (plain_assignment (kind_of op) q.2)) ∙ of_assignment (kind_of op) op.nl_before q.2))
-
--- the operator and what is given
-pub record IsGiven (room : ℕ) (head x : Value) (m : Place) (rest : List Piece) : Type 0 where
-  pub target : Pattern
-  pub op : Token
-  pub given : Expr
-  pub is : out-Expr x.node ≡ Expr-F.Assign target op given
-  pub covers : Covers head.node target
-  pub good : stands ASSIGN (expr given) ≡ true
-  pub low : (pattern target).height < room
-  pub fits : (expr given).height < room
-  pub read : Reads m (Tok op is_assignment ∷ expr_line given rest)
-
-pub given_view : (room : ℕ) (head x : Value) (behind rest : List Piece) (m : Place) → IsStrength m 2 → ValueAt ASSIGN room x → Stops ASSIGN rest → AssignsTo head x behind rest → Reads m behind → IsGiven room head x m rest
-given_view room head x behind rest m is at s (Stays e b) r =
-    let t = is.some (omega arith) in
-    absurd (omega (arith, is.all t.0 t.1 t.2 t.3, s m (subst (Reads m) b r) t.0 t.1 t.2 t.3))
-given_view room head x behind rest m is at s (Assigns target op given e c b) r =
-    let seen = at_expr x.node (Expr-F.Assign target op given) e in
-    let h : (expr x.node).height ≡ max (pattern target).height (max (expr given).height 0) + 1 = ap (λ (z : Seen). z.height) seen in
-    let sound : (((pattern target).is_sound && (is_kind kinds.Assign (kind_of op) || (pattern target).is_target)) ≡ true) × (stands ASSIGN (expr given) ≡ true) =
-    and_parts _ _ (sym (ap (λ (z : Seen). z.is_sound) seen) ∙ (and_parts _ _ at.stands).0) in
-    record {
-      target = target;
-      op = op;
-      given = given;
-      is = e;
-      covers = c;
-      good = sound.1;
-      low = omega (arith, h, at.height, at.fits);
-      fits = omega (arith, h, at.height, at.fits);
-      read = subst (Reads m) b r;
-    }
+pub given_at : (room : ℕ) (head x : Value) (behind rest : List Piece) → (w : AssignsTo head x behind rest) → ValueAt ASSIGN room x → ValueAt ASSIGN (room - 1) (value_of w.given) × ((pattern w.target).height < room)
+given_at room head x behind rest w at =
+    let h : (expr x.node).height ≡ max (pattern w.target).height (max (expr w.given).height 0) + 1 = ap (λ (z : Seen). z.height) (at_expr x.node (Expr-F.Assign w.target w.op w.given) w.is) in
+    (value_at ASSIGN (room - 1) w.given w.good (omega (arith, h, at.height, at.fits)), omega (arith, h, at.height, at.fits))
 
 -- a choice stands below
 pub above_cond : (room : ℕ) (x : Value) → ValueAt BINARY room x → (expr x.node).rank ≡ COND → ⊥

@@ -1,5 +1,5 @@
--- How items by commas in brackets are read, item by item.
-use Rattle.std.proofs.Common.{◌≡◌, ℕ, ◌≤◌, max, Bool, true, false, ◌&&◌, not, List, [], ◌∷◌, ◌++◌, Option, Some, None, is_some, refl, sym, ap, ◌∙◌, subst, arith, append-nil, append_assoc, true≢false}
+-- What is seen of items by commas in brackets, how tall they are, and elements as such items.
+use Rattle.std.proofs.Common.{◌≡◌, ℕ, ◌≤◌, max, Bool, true, false, ◌&&◌, not, List, [], ◌∷◌, ◌++◌, Option, Some, None, is_some, refl, sym, ap, ◌∙◌, arith, true≢false}
 use Rattle.std.proofs.lemmas.Bool.{and_from, and_parts}
 use Rattle.std.proofs.lemmas.List.Folds.{list_all-map}
 use Rattle.std.specs.List.{list_all}
@@ -8,21 +8,16 @@ use Rattle.js_tree.specs.declared.lists.Element.{Element}
 use Rattle.js_tree.specs.declared.lists.Listed.{Listed}
 use Rattle.js_tree.specs.declared.token.Token.{Token}
 use Rattle.js_tree.specs.declared.token_kind.TokenKind.TheVariants as kinds
-use Rattle.js_tree.specs.Lexing.{Place}
-use Rattle.js_tree.specs.Pieces.{Piece, Tok, Onto}
+use Rattle.js_tree.specs.Pieces.{Onto}
 use Rattle.js_tree.specs.Spelling.{tallest_of}
-use Rattle.js_tree.specs.Spelling.Nodes.{all_within, passes, pieces, unmarked}
-use Rattle.js_tree.specs.Spelling.Rows.{bracket_row, each_of, element_row, listed_row, may_mark, maybe}
-use Rattle.js_tree.specs.TokenKinds.{is}
+use Rattle.js_tree.specs.Spelling.Nodes.{all_within, passes, unmarked}
+use Rattle.js_tree.specs.Spelling.Rows.{bracket_row, each_of, element_row, listed_row, maybe}
 use Rattle.js_tree.proofs.Folds.{map_bracket, map_element, map_listed, map_maybe}
-use Rattle.js_tokens.specs.Pieces.{Reads, Read, Passes}
-use Rattle.js_tokens.specs.declared.fault.TokenFault.{TokenFault}
-use Rattle.js_parser.proofs.BeginLemmas.{no_kind_before}
-use Rattle.js_parser.proofs.ListLemmas.{AllOf, each-push, good-push, tallest-push}
-use Rattle.js_parser.proofs.PlaceLemmas.{passes_none, passes_on}
-use Rattle.js_parser.proofs.ReadLemmas.{IsWant}
-use Rattle.js_parser.specs.Brackets.{Puts}
-use Rattle.js_parser.specs.Nodes.{NoMark}
+use Rattle.js_parser.proofs.ListLemmas.{tallest-push}
+use Rattle.js_parser.specs.Brackets.{Closes, EnclosedAt, Every, IfThere, Opens, Puts, element_kind, inside_height, last_height}
+use Rattle.js_parser.specs.Nodes.{BracketAt}
+use Rattle.js_parser.specs.declared.brackets.Enclosed.{Enclosed}
+use Rattle.js_parser.specs.declared.tall.Tall.{Tall}
 
 -- WHAT IS SEEN
 
@@ -35,14 +30,6 @@ pub within_seen : {X Y : Type 0} (test : Element Y → Bool) (f : X → Y) (b : 
 within_seen test f b = λ i. list_all-map (λ (x : Listed (Element _)). test x.item) (map_listed (map_element f)) b.front i && passes_seen test (map_element f) b.last i
 
 -- HEIGHTS
-
--- the height of the tallest item, or 0
-abbrev pub last_height : {X : Type 0} → (X → ℕ) → Option X → ℕ
-last_height height None = 0
-last_height height (Some x) = height x
-
-abbrev pub inside_height : {X : Type 0} → (X → ℕ) → List (Listed X) → Option X → ℕ
-inside_height height front last = max (tallest_of (λ x. height x.item) front) (last_height height last)
 
 module _ {Y : Type 0} (f : Y → ℕ) where
   abbrev taller : Y → ℕ → ℕ
@@ -88,193 +75,55 @@ not_both false true e h = refl
 not_both false false e h = absurd (true≢false e)
 not_both true b e h = absurd (true≢false h)
 
-none_some : (t : Token) → ◌≡◌ {A = Option Token} None (Some t) → ⊥
-none_some t e = true≢false (sym (ap (λ (o : Option Token). is_some o) e))
+-- ELEMENTS IN BRACKETS
 
-token_or : Token → Option Token → Token
-token_or t None = t
-token_or t (Some u) = u
+pub opens_paren : Opens kinds.LeftParen
+opens_paren = record { plain = refl; some = refl }
 
-same_token : (t u : Token) → ◌≡◌ {A = Option Token} (Some t) (Some u) → t ≡ u
-unfolding token_or
-same_token t u e = ap (token_or t) e
+pub closes_paren : Closes kinds.RightParen
+closes_paren = record { plain = refl; weak = λ nl. refl; comma = refl; some = refl }
 
--- ITEMS
+-- as they are read
+abbrev pub enclosed_of : {Y : Type 0} → Tall (Bracket Y) → Tall (Enclosed (Element Y))
+enclosed_of x = record { node = record { left = x.node.«open»; inside = record { front = x.node.front; last = x.node.last }; right = x.node.close }; height = x.height }
 
--- `)` in front of what follows
-abbrev pub closing : Token → Onto
-closing close more = Tok close (is kinds.RightParen) ∷ more
+module _ {Y : Type 0} (line : Y → Onto) (stands : Element Y → Bool) (f : Y → ℕ) (room : ℕ) where
+  tall : (b : Bracket Y) → bracket_row unmarked (taller f) b 0 ≡ inside_height (λ (x : Element Y). f x.value) b.front b.last
+  tall b = let e = bracket_tall f b 0 in omega (arith, e)
 
-module _ {X : Type 0} (item : X → Onto) (P : X → Type 0) (Stops : X → List Piece → Type 0) where
-  abbrev pub inside : List (Listed X) → Option X → Onto
-  inside front last rest = each_of (listed_row pieces item) front (maybe item last rest)
+  abbrev Fits : Element Y → Type 0
+  Fits x = (stands x ≡ true) × (f x.value ≤ room)
 
-  abbrev pub GoodLast : Option X → Type 0
-  GoodLast None = Unit {0}
-  GoodLast (Some x) = P x
+  abbrev FitsLast : Element Y → Type 0
+  FitsLast x = Fits x × (true ≡ true)
 
-  pub record Good (front : List (Listed X)) (last : Option X) : Type 0 where
-    pub each : AllOf (λ (x : Listed X). P x.item) front
-    pub end : GoodLast last
-
-  -- what is left of items whose front and last were read
-  abbrev Continues : List (Listed X) → Option X → Place → List (Listed X) → Option X → List Piece → Type 0
-  Continues front None m xs l behind = (ys : List (Listed X)) × (xs ≡ front ++ ys) × Reads m (inside ys l behind) × Good ys l
-  Continues front (Some x) m xs l behind = (xs ≡ front) × (l ≡ Some x) × Reads m behind
-
-  -- the items were read from p to m, and whatever could be read at p begins with them
-  pub record Within (p : Place) (front : List (Listed X)) (last : Option X) (m : Place) : Type 0 where
-    pub found : Read p (inside front last) m
-    pub good : Good front last
-    pub only : (xs : List (Listed X)) (l : Option X) (close : Token) (more : List Piece) → Reads p (inside xs l (closing close more)) → Good xs l → Continues front last m xs l (closing close more)
-    pub passes : Passes p m
-
-  pub within_none : (p : Place) → Within p [] None p
-  unfolding AllOf
-  within_none p = record { found = λ rest r. r; good = record { each = tt; end = tt }; only = λ xs l close more r g. (xs, refl, r, g); passes = passes_none p }
-
-  -- a further item stands at m, and it ends before a comma and before `)`
-  pub record Goes (m : Place) : Type 0 where
-    pub unclosed : (close : Token) (more : List Piece) → Reads m (closing close more) → ⊥
-    pub comma : (x : X) (t : Token) (rest : List Piece) → Stops x (Tok t (is kinds.Comma) ∷ rest)
-    pub close : (x : X) (t : Token) (rest : List Piece) → Stops x (closing t rest)
-
-  no_comma : (close : Token) (more : List Piece) → NoMark kinds.Comma None (closing close more)
-  no_comma close more e = no_kind_before (is kinds.Comma) kinds.RightParen refl refl close more
-
-  a_comma : (t : Token) (rest : List Piece) → NoMark kinds.Comma (Some t) rest
-  a_comma t rest e = absurd (true≢false e)
-
-  -- what can't be read refuses all items
-  refused_by : (p m : Place) (front : List (Listed X)) (last : Option X) (e : TokenFault) → is_some last ≡ false → Within p front last m → Goes m
-      → ((y : X) (close : Token) (more : List Piece) → Reads m (item y (closing close more)) → P y → IsWant e)
-      → ((y : Listed X) (rest : List Piece) → Reads m (listed_row pieces item y rest) → P y.item → IsWant e)
-      → (xs : List (Listed X)) (l : Option X) (close : Token) (more : List Piece) → Reads p (inside xs l (closing close more)) → Good xs l → IsWant e
-  unfolding AllOf
-  refused_by p m front (Some i) e h before goes ends listed xs l close more r g = absurd (true≢false h)
-  refused_by p m front None e h before goes ends listed xs l close more r g = let a = before.only xs l close more r g in onward a.0 l a.2 a.3
+  pub in_brackets : (x : Tall (Bracket Y)) → BracketAt stands f room x → EnclosedAt (element_kind line stands f) room (enclosed_of x)
+  in_brackets x at =
+      let s = and_parts _ _ at.each in
+      let e = tall x.node in
+      record {
+        all = record { each = each x.node.front s.0 (omega (arith, e, at.height, at.fits)); end = end x.node.last s.1 (omega (arith, e, at.height, at.fits)) };
+        height = at.height ∙ e;
+      }
     where
-      onward : (ys : List (Listed X)) (l : Option X) → Reads m (inside ys l (closing close more)) → Good ys l → IsWant e
-      onward [] None r g = absurd (goes.unclosed close more r)
-      onward [] (Some y) r g = ends y close more r g.end
-      onward (y ∷ ys) l r g = listed y (inside ys l (closing close more)) r g.each.0
-
-  -- an item that can't be read
-  pub item_refused : (p m : Place) (front : List (Listed X)) (last : Option X) (e : TokenFault) → is_some last ≡ false → Within p front last m → Goes m
-      → ((y : X) (rest : List Piece) → Reads m (item y rest) → P y → Stops y rest → IsWant e)
-      → (xs : List (Listed X)) (l : Option X) (close : Token) (more : List Piece) → Reads p (inside xs l (closing close more)) → Good xs l → IsWant e
-  item_refused p m front last e h before goes only =
-      refused_by p m front last e h before goes (λ y close more r good. only y (closing close more) r good (goes.close y close more))
-      (λ y rest r good. only y.item (Tok y.mark (is kinds.Comma) ∷ rest) r good (goes.comma y.item y.mark rest))
-
-  -- a comma that can't be read
-  pub comma_refused : (p m n : Place) (front : List (Listed X)) (last : Option X) (x : X) (e : TokenFault) → is_some last ≡ false → Within p front last m → Goes m
-      → ((y : X) (rest : List Piece) → Reads m (item y rest) → P y → Stops y rest → (x ≡ y) × Reads n rest)
-      → ((o : Option Token) (rest : List Piece) → Reads n (may_mark pieces kinds.Comma o rest) → NoMark kinds.Comma o rest → IsWant e)
-      → (xs : List (Listed X)) (l : Option X) (close : Token) (more : List Piece) → Reads p (inside xs l (closing close more)) → Good xs l → IsWant e
-  comma_refused p m n front last x e h before goes only one =
-      refused_by p m front last e h before goes
-      (λ y close more r good. one None (closing close more) (only y (closing close more) r good (goes.close y close more)).1 (no_comma close more))
-      (λ y rest r good. one (Some y.mark) rest (only y.item (Tok y.mark (is kinds.Comma) ∷ rest) r good (goes.comma y.item y.mark rest)).1 (a_comma y.mark rest))
-
-  -- an item and the comma behind it, where there is one
-  pub within_more : (p m n k : Place) (front : List (Listed X)) (last : Option X) (x : X) (comma : Option Token) (front' : List (Listed X)) (last' : Option X)
-      → is_some last ≡ false → Within p front last m → Goes m → Read m (item x) n → P x → Passes m n
-      → ((y : X) (rest : List Piece) → Reads m (item y rest) → P y → Stops y rest → (x ≡ y) × Reads n rest)
-      → Read n (may_mark pieces kinds.Comma comma) k → Passes n k
-      → ((o : Option Token) (rest : List Piece) → Reads n (may_mark pieces kinds.Comma o rest) → NoMark kinds.Comma o rest → (comma ≡ o) × Reads k rest)
-      → Puts x comma front last front' last' → Within p front' last' k
-  unfolding AllOf
-  within_more p m n k front (Some i) x comma front' last' h before goes found good passes only met past one puts = absurd (true≢false h)
-  within_more p m n k front None x None front' last' h before goes found good passes only met past one puts =
-      subst (λ (xs : List (Listed X)). Within p xs last' k) (sym puts.0) (subst (λ (l : Option X). Within p front l k) (sym puts.1) (record {
-        found = λ rest r. before.found (item x rest) (found rest (met rest r));
-        good = record { each = before.good.each; end = good };
-        only = λ xs l close more r g. let a = before.only xs l close more r g in onward xs l close more a.0 a.1 a.2 a.3;
-        passes = passes_on p m k before.passes (passes_on m n k passes past);
-      }))
-    where
-      onward : (xs : List (Listed X)) (l : Option X) (close : Token) (more : List Piece) (ys : List (Listed X)) → xs ≡ front ++ ys → Reads m (inside ys l (closing close more)) → Good ys l
-          → (xs ≡ front) × (l ≡ Some x) × Reads k (closing close more)
-      onward xs None close more [] e r g = absurd (goes.unclosed close more r)
-      onward xs (Some y) close more [] e r g =
-          let b = only y (closing close more) r g.end (goes.close y close more) in
-          let d = one None (closing close more) b.1 (no_comma close more) in
-          (e ∙ append-nil front, ap (λ (z : X). Some z) (sym b.0), d.1)
-      onward xs l close more (y ∷ ys) e r g =
-          let b = only y.item (Tok y.mark (is kinds.Comma) ∷ inside ys l (closing close more)) r g.each.0 (goes.comma y.item y.mark (inside ys l (closing close more))) in
-          let d = one (Some y.mark) (inside ys l (closing close more)) b.1 (a_comma y.mark (inside ys l (closing close more))) in
-          absurd (none_some y.mark d.0)
-  within_more p m n k front None x (Some mark) front' last' h before goes found good passes only met past one puts =
-      subst (λ (xs : List (Listed X)). Within p xs last' k) (sym puts.0) (subst (λ (l : Option X). Within p (front ++ listed ∷ []) l k) (sym puts.1) (record {
-        found = λ rest r. subst (λ (ps : List Piece). Reads p ps) (sym (each-push (listed_row pieces item) (λ (y : Listed X). P y.item) (λ ps. Unit {0}) (λ y ps. Unit {0}) front listed rest))
-            (before.found (listed_row pieces item listed rest) (found (Tok mark (is kinds.Comma) ∷ rest) (met rest r)));
-        good = record { each = good-push (listed_row pieces item) (λ (y : Listed X). P y.item) (λ ps. Unit {0}) (λ y ps. Unit {0}) front listed before.good.each good; end = tt };
-        only = λ xs l close more r g. let a = before.only xs l close more r g in onward xs l close more a.0 a.1 a.2 a.3;
-        passes = passes_on p m k before.passes (passes_on m n k passes past);
-      }))
-    where
-      listed : Listed X
-      listed = record { item = x; mark = mark }
-
-      onward : (xs : List (Listed X)) (l : Option X) (close : Token) (more : List Piece) (ys : List (Listed X)) → xs ≡ front ++ ys → Reads m (inside ys l (closing close more)) → Good ys l
-          → (zs : List (Listed X)) × (xs ≡ (front ++ listed ∷ []) ++ zs) × Reads k (inside zs l (closing close more)) × Good zs l
-      onward xs None close more [] e r g = absurd (goes.unclosed close more r)
-      onward xs (Some y) close more [] e r g =
-          let b = only y (closing close more) r g.end (goes.close y close more) in
-          let d = one None (closing close more) b.1 (no_comma close more) in
-          absurd (none_some mark (sym d.0))
-      onward xs l close more (y ∷ ys) e r g =
-          let b = only y.item (Tok y.mark (is kinds.Comma) ∷ inside ys l (closing close more)) r g.each.0 (goes.comma y.item y.mark (inside ys l (closing close more))) in
-          let d = one (Some y.mark) (inside ys l (closing close more)) b.1 (a_comma y.mark (inside ys l (closing close more))) in
-          let same : listed ≡ y = (λ i. record { item = b.0 i; mark = same_token mark y.mark d.0 i }) in
-          (ys, e ∙ ap (λ (z : Listed X). front ++ z ∷ ys) (sym same) ∙ sym (append_assoc front (listed ∷ []) ys), d.1, record { each = g.each.1; end = g.end })
-
-  -- where no item follows
-  pub within_all : (p m : Place) (front : List (Listed X)) (last : Option X) → Within p front last m → (is_some last ≡ false → (y : X) (rest : List Piece) → Reads m (item y rest) → P y → ⊥)
-      → (xs : List (Listed X)) (l : Option X) (close : Token) (more : List Piece) → Reads p (inside xs l (closing close more)) → Good xs l → (front ≡ xs) × (last ≡ l) × Reads m (closing close more)
-  unfolding AllOf
-  within_all p m front (Some x) done ends xs l close more r g = let a = done.only xs l close more r g in (sym a.0, sym a.1, a.2)
-  within_all p m front None done ends xs l close more r g = let a = done.only xs l close more r g in whole l a.0 a.1 a.2 a.3
-    where
-      whole : (l : Option X) (ys : List (Listed X)) → xs ≡ front ++ ys → Reads m (inside ys l (closing close more)) → Good ys l → (front ≡ xs) × (◌≡◌ {A = Option X} None l) × Reads m (closing close more)
-      whole None [] e r g = (sym (e ∙ append-nil front), refl, r)
-      whole (Some y) [] e r g = absurd (ends refl y (closing close more) r g.end)
-      whole l (y ∷ ys) e r g = absurd (ends refl y.item (Tok y.mark (is kinds.Comma) ∷ inside ys l (closing close more)) r g.each.0)
-
--- WHAT IS ASKED OF ALL
-
-module _ {Y : Type 0} (item : Element Y → Onto) (fits : Element Y → Bool) (height : Element Y → ℕ) (room : ℕ) (Stops : Element Y → List Piece → Type 0) where
-  -- an item passes the test and is no taller than the room
-  abbrev pub Suits : Element Y → Type 0
-  Suits x = (fits x ≡ true) × (height x ≤ room)
-
-  -- what is asked of all items is asked of each
-  pub bracket_good : (b : Bracket Y) (tall : ℕ) → all_within fits b ≡ true → tall ≡ inside_height height b.front b.last → tall ≤ room → Good item Suits Stops b.front b.last
-  unfolding AllOf
-  bracket_good b tall good same low =
-      let s = and_parts _ _ good in
-      record { each = each b.front s.0 (omega (arith, same, low)); end = end b.last s.1 (omega (arith, same, low)) }
-    where
-      each : (xs : List (Listed (Element Y))) → list_all (λ x. fits x.item) xs ≡ true → tallest_of (λ x. height x.item) xs ≤ room → AllOf (λ (x : Listed (Element Y)). Suits x.item) xs
+      each : (xs : List (Listed (Element Y))) → list_all (λ y. stands y.item) xs ≡ true → tallest_of (λ y. f y.item.value) xs ≤ room → Every Fits xs
       each [] e h = tt
-      each (x ∷ xs) e h = let s = and_parts _ _ e in ((s.0, omega (arith, h)), each xs s.1 (omega (arith, h)))
+      each (y ∷ ys) e h = let s = and_parts _ _ e in ((s.0, omega (arith, h)), each ys s.1 (omega (arith, h)))
 
-      end : (o : Option (Element Y)) → passes fits o ≡ true → last_height height o ≤ room → GoodLast item Suits Stops o
+      end : (o : Option (Element Y)) → passes stands o ≡ true → last_height (λ (y : Element Y). f y.value) o ≤ room → IfThere FitsLast o
       end None e h = tt
-      end (Some x) e h = (e, h)
+      end (Some y) e h = ((e, h), refl)
 
-  pub good_bracket : (b : Bracket Y) → Good item Suits Stops b.front b.last → (all_within fits b ≡ true) × (inside_height height b.front b.last ≤ room)
-  unfolding AllOf
-  good_bracket b good =
-      let e = each b.front good.each in
-      let l = end b.last good.end in
-      (and_from _ _ e.0 l.0, omega (arith, e.1, l.1))
+  pub as_bracket : (b : Bracket Y) (height : ℕ) → EnclosedAt (element_kind line stands f) room (enclosed_of (record { node = b; height = height })) → BracketAt stands f room (record { node = b; height = height })
+  as_bracket b height at =
+      let e = each b.front at.all.each in
+      let l = end b.last at.all.end in
+      record { each = and_from _ _ e.0 l.0; height = at.height ∙ sym (tall b); fits = omega (arith, at.height, e.1, l.1) }
     where
-      each : (xs : List (Listed (Element Y))) → AllOf (λ (x : Listed (Element Y)). Suits x.item) xs → (list_all (λ x. fits x.item) xs ≡ true) × (tallest_of (λ x. height x.item) xs ≤ room)
+      each : (xs : List (Listed (Element Y))) → Every Fits xs → (list_all (λ y. stands y.item) xs ≡ true) × (tallest_of (λ y. f y.item.value) xs ≤ room)
       each [] a = (refl, omega arith)
-      each (x ∷ xs) a = let m = each xs a.1 in (and_from _ _ a.0.0 m.0, omega (arith, a.0.1, m.1))
+      each (y ∷ ys) a = let m = each ys a.1 in (and_from _ _ a.0.0 m.0, omega (arith, a.0.1, m.1))
 
-      end : (o : Option (Element Y)) → GoodLast item Suits Stops o → (passes fits o ≡ true) × (last_height height o ≤ room)
+      end : (o : Option (Element Y)) → IfThere FitsLast o → (passes stands o ≡ true) × (last_height (λ (y : Element Y). f y.value) o ≤ room)
       end None a = (refl, omega arith)
-      end (Some x) a = (a.0, a.1)
+      end (Some y) a = (a.0.0, a.0.1)

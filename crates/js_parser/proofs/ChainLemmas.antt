@@ -1,5 +1,5 @@
 -- Chains: what is asked of tails and arguments, their heights, and what stands behind a head.
-use Rattle.std.proofs.Common.{◌≡◌, ◌⊎◌, inl, inr, ℕ, ◌+◌, ◌-◌, ◌<◌, ◌≤◌, ◌==◌, max, Bool, true, false, ◌&&◌, ◌||◌, not, List, [], ◌∷◌, map, refl, sym, ap, ◌∙◌, subst, arith, true≢false, if◌then◌else◌}
+use Rattle.std.proofs.Common.{◌≡◌, ℕ, ◌+◌, ◌-◌, ◌≤◌, ◌==◌, max, Bool, true, false, ◌&&◌, ◌||◌, not, List, [], ◌∷◌, map, refl, sym, ap, ◌∙◌, subst, arith, true≢false, if◌then◌else◌}
 use Rattle.std.specs.Prelude.{nat_le, codes, Option, Some, None, is_some}
 use Rattle.std.specs.List.{list_all, list_any}
 use Rattle.std.proofs.lemmas.Bool.{and_parts, false_from_ne_true, le-leb, leb-true, not-true, or_parts}
@@ -10,38 +10,37 @@ use Rattle.js_tree.specs.declared.lists.Element.{Element}
 use Rattle.js_tree.specs.declared.lists.Listed.{Listed}
 use Rattle.js_tree.specs.declared.lists.Tail.{Tail}
 use Rattle.js_tree.specs.declared.lists.Tail.TheVariants as tail
-use Rattle.js_tree.specs.declared.lists.Template.{Template}
 use Rattle.js_tree.specs.declared.token_kind.TokenKind.{TokenKind}
 use Rattle.js_tree.specs.declared.token_kind.TokenKind.TheVariants as kinds
 use Rattle.js_tree.specs.declared.tree.Expr.{Expr, out-Expr, roll-Expr}
 use Rattle.js_tree.specs.declared.tree.Expr.TheOpen.{Expr-F}
-use Rattle.js_tree.specs.Folds.{ExprLayer}
 use Rattle.js_tree.specs.Lexing.{Place}
-use Rattle.js_tree.specs.Operators.{is_update}
 use Rattle.js_tree.specs.Pieces.{Piece, kind as kind_of}
 use Rattle.js_tree.specs.Spelling.{expr, function, pattern, stmt, slot, tallest_of}
 use Rattle.js_tree.specs.Spelling.Chains.{arguments_fit, tail_fits, is_call, calls}
-use Rattle.js_tree.specs.Spelling.Expressions.{expr_musts, expr_rank, expr_row}
-use Rattle.js_tree.specs.Spelling.Nodes.{Seen, UNARY, UPDATE, CHAIN, NEW, MADE, binary_rank, musts, pieces, unmarked, stands, is_empty, passes, all_within, is_named, seen_line}
+use Rattle.js_tree.specs.Spelling.Expressions.{expr_musts, expr_row}
+use Rattle.js_tree.specs.Spelling.Nodes.{Seen, POWER, POSTFIX, CHAIN, NEW, MADE, musts, pieces, unmarked, stands, is_empty, passes, all_within, is_named, seen_line}
 use Rattle.js_tree.specs.Spelling.Rows.{each_of, tail_row, template_parts}
 use Rattle.js_tree.specs.TokenKinds.{is}
 use Rattle.js_tree.proofs.Folds.{map_maybe, map_listed, map_bracket, map_tail, layer-Chain}
 use Rattle.js_tree.proofs.KindLemmas.{every, is_itself, is_same}
 use Rattle.js_tree.proofs.RowLemmas.{tails_map}
-use Rattle.js_tree.proofs.SpellingLemmas.{at_expr, at-Chain, expr_layer, seen_lines}
+use Rattle.js_tree.proofs.SpellingLemmas.{at-Chain, seen_lines}
 use Rattle.js_tokens.specs.Ahead.{IsNextKind, reads}
 use Rattle.js_tokens.specs.Pieces.{Read, Reads}
 use Rattle.js_tokens.specs.declared.goal.Goal.TheVariants as goal
 use Rattle.js_parser.proofs.BeginLemmas.{next_of}
 use Rattle.js_parser.proofs.BracketLemmas.{bracket_tall, within_seen}
-use Rattle.js_parser.proofs.ExprLemmas.{node_of, value_of, value_at, value_is}
-use Rattle.js_parser.proofs.HeadLemmas.{at_line}
+use Rattle.js_parser.proofs.ExprLemmas.{node_of, value_of, value_at}
+use Rattle.js_parser.proofs.FormLemmas.{Strong, IsPower, IsUnary, IsPostfix, IsChain, IsHigh, below, rank-Unary, strong}
+use Rattle.js_parser.proofs.HeadLemmas.{at_line, rank_at}
+use Rattle.js_parser.proofs.LeadLemmas.{Leads, Views, at_higher, at_least, least_at}
 use Rattle.js_parser.proofs.MadeLemmas.{out_of, read_at}
 use Rattle.js_parser.proofs.TailLemmas.{as_call, begins, tail_begins}
 use Rattle.js_parser.proofs.TokenLemmas.{implies}
+use Rattle.js_parser.specs.Behind.{AloneOr, Alone, With, TakesTails}
 use Rattle.js_parser.specs.Following.{NoKind, Stops, begins_tail, rest_level, strength}
-use Rattle.js_parser.specs.Nodes.{IsSeen, TailsAt, ValueAt, ValueStops, argument_stands, expr_line, higher, may_call, substitution_stands, tail_height, tail_stands, tails_line, value_line}
-use Rattle.js_parser.specs.declared.kinds.Primary.TheVariants as sorts
+use Rattle.js_parser.specs.Nodes.{IsSeen, TailsAt, ValueAt, argument_stands, expr_line, higher, may_call, substitution_stands, tail_height, tail_stands, tails_line, value_line}
 use Rattle.js_parser.specs.declared.tall.Tall.{Tall}
 use Rattle.js_parser.specs.declared.tall.Value.{Value}
 
@@ -205,29 +204,6 @@ not_empty (x ∷ xs) b is e = refl
 abbrev pub tall_tails : List (Tail Expr) → Tall (List (Tail Expr))
 tall_tails ts = record { node = ts; height = tallest_of tail_height ts }
 
--- the head alone
-pub record IsAlone (head : Expr) (tails : List (Tail Expr)) (x : Value) : Type 0 where
-  pub none : tails ≡ []
-  pub same : value_of head ≡ x
-
--- a chain of the head and the tails
-pub record IsChain (head : Expr) (tails : List (Tail Expr)) (x : Value) : Type 0 where
-  pub layer : out-Expr x.node ≡ Expr-F.Chain head tails
-  pub made : MADE ≤ (expr head).rank
-  pub some : is_empty tails ≡ false
-  pub direct : (is_named (codes "eval") (expr head) && calls tails) ≡ false
-
--- an expression of the level of a chain as a head and tails, none where the head stands alone
-pub record ChainView (room : ℕ) (p : Place) (x : Value) (rest : List Piece) : Type 0 where
-  pub head : Expr
-  pub tails : List (Tail Expr)
-  pub read : Reads p (expr_line head (tails_line tails rest))
-  pub at : ValueAt NEW room (value_of head)
-  pub stops : ValueStops NEW (value_of head) (tails_line tails rest)
-  pub tails_at : TailsAt true (room - 1) (tall_tails tails)
-  pub ends : NoKind (begins_tail true) rest
-  pub is : IsAlone head tails x ⊎ IsChain head tails x
-
 -- what is asked of a chain
 abbrev chain_layer : Expr → List (Tail Expr) → Expr-F Seen Seen Seen Seen Seen
 chain_layer head tails = Expr-F.Chain (expr head) (map (map_tail expr) tails)
@@ -237,83 +213,71 @@ chain_height x head tails e =
     let h : (expr x).height ≡ max (expr head).height (each_of (tail_row unmarked higher) tails 0) + 1 = ap (λ (u : Seen). u.height) (at-Chain x head tails e) ∙ ap (λ n. max (expr head).height n + 1) (tails_map unmarked (λ (u : Seen) n. max u.height n) expr tails 0) in
     omega (arith, h, tails_tall tails 0)
 
-pub chain_view : (room : ℕ) (p : Place) (x : Value) (rest : List Piece) → ValueAt CHAIN room x → Stops CHAIN rest → Reads p (value_line x rest) → ChainView room p x rest
-chain_view room p x rest at s r = by_layer (out-Expr x.node) refl
+-- a chain, or its head alone
+pub chain_view : (room : ℕ) (p : Place) → Views (AloneOr TakesTails) NEW CHAIN room p
+chain_view room p x rest r at s = by_form (strong p x.node rest r (least_at POWER (expr x.node).rank (omega (arith, at_least CHAIN (expr x.node).rank high))))
   where
-    sound : (expr x.node).is_sound ≡ true
-    sound = (and_parts (expr x.node).is_sound (nat_le CHAIN (expr x.node).rank) at.stands).0
+    high : nat_le CHAIN (expr x.node).rank ≡ true
+    high = (and_parts (expr x.node).is_sound (nat_le CHAIN (expr x.node).rank) at.stands).1
 
-    rank : CHAIN ≤ (expr x.node).rank
-    rank = leb-true CHAIN (expr x.node).rank (and_parts (expr x.node).is_sound (nat_le CHAIN (expr x.node).rank) at.stands).1
-
-    alone : NEW ≤ (expr x.node).rank → ChainView room p x rest
-    alone more = record {
-      head = x.node;
-      tails = [];
-      read = r;
-      at = value_at NEW room x.node (ap (λ b. b && nat_le NEW (expr x.node).rank) sound ∙ le-leb NEW (expr x.node).rank more) (omega (arith, at.height, at.fits));
-      stops = stops_head (expr x.node).rank rest s;
-      tails_at = record { each = refl; height = refl; fits = omega arith };
-      ends = no_tail true rest s;
-      is = inl (record { none = refl; same = value_is CHAIN room x at });
-    }
-
-    chain : (head : Expr) (tails : List (Tail Expr)) → out-Expr x.node ≡ Expr-F.Chain head tails → ChainView room p x rest
+    chain : (head : Expr) (tails : List (Tail Expr)) → out-Expr x.node ≡ Expr-F.Chain head tails → Leads (AloneOr TakesTails) NEW room p x rest
     chain head tails e =
         let m : Reads p (musts (expr_musts (chain_layer head tails)) (expr_row seen_lines (Expr-F.Chain head tails) rest)) = subst (λ (l : Expr-F Seen Seen Seen Seen Seen). Reads p (musts (expr_musts l) (expr_row seen_lines (Expr-F.Chain head tails) rest))) (layer-Chain expr function pattern stmt slot head tails) (at_line p x.node rest (Expr-F.Chain head tails) e r) in
         let h = chain_height x.node head tails e in
         let good = and_parts _ _ m.0 in
         let more = leb-true _ _ good.1 in
         record {
-          head = head;
-          tails = tails;
+          first = value_of head;
+          behind = tails_line tails rest;
           read = subst (λ (ps : List Piece). Reads p (expr_line head ps)) (tails_map pieces seen_line expr tails rest) m.1.1.1.1;
           at = value_at NEW room head (ap (λ b. b && nat_le NEW (expr head).rank) good.0 ∙ le-leb NEW (expr head).rank (omega (arith, more))) (omega (arith, h, at.height, at.fits));
           stops = stops_made (expr head).rank (tails_line tails rest) more;
-          tails_at = record { each = may_all tails ∙ sym (tails_seen tails) ∙ m.1.1.1.0; height = refl; fits = omega (arith, h, at.height, at.fits) };
-          ends = no_tail true rest s;
-          is = inr (record {
-            layer = e;
+          after = With (record {
+            tails = tails;
+            is = e;
             made = more;
             some = sym (empty_seen tails) ∙ not-true _ m.1.0;
+            each = sym (tails_seen tails) ∙ m.1.1.1.0;
             direct = ap (λ b. is_named (codes "eval") (expr head) && b) (sym (calls_seen tails)) ∙ not-true _ m.1.1.0;
+            behind = refl;
           });
         }
 
-    rank_at : (l : ExprLayer) → out-Expr x.node ≡ l → (expr x.node).rank ≡ expr_rank (expr_layer l)
-    rank_at l e = ap (λ (u : Seen). u.rank) (at_expr x.node l e)
+    by_form : Strong x.node → Leads (AloneOr TakesTails) NEW room p x rest
+    by_form (IsPower base op exponent e) = below CHAIN POWER x.node (rank_at x.node (Expr-F.Power base op exponent) e) (omega arith) high
+    by_form (IsUnary op operand e) = let low = rank-Unary x.node op operand e in below CHAIN (expr x.node).rank x.node refl (omega (arith, low)) high
+    by_form (IsPostfix target op e) = below CHAIN POSTFIX x.node (rank_at x.node (Expr-F.Postfix target op) e) (omega arith) high
+    by_form (IsChain head tails e) = chain head tails e
+    by_form (IsHigh v) = record { first = x; behind = rest; read = r; at = at_higher CHAIN NEW room x v at; stops = stops_head (expr x.node).rank rest s; after = Alone refl refl }
 
-    low : (n : ℕ) → (expr x.node).rank ≡ n → n < CHAIN → ChainView room p x rest
-    low n e less = absurd (omega (arith, e, less, rank))
+-- the tails that stand behind the head, none where it stands alone
+pub record HasTails (room : ℕ) (head x : Value) (m : Place) (rest : List Piece) : Type 0 where
+  pub tails : List (Tail Expr)
+  pub read : Reads m (tails_line tails rest)
+  pub at : TailsAt true (room - 1) (tall_tails tails)
+  pub ends : NoKind (begins_tail true) rest
+  pub alone : is_empty tails ≡ true → head ≡ x
+  pub chain : is_empty tails ≡ false → out-Expr x.node ≡ Expr-F.Chain head.node tails
 
-    high : (n : ℕ) → (expr x.node).rank ≡ n → NEW ≤ n → ChainView room p x rest
-    high n e more = alone (omega (arith, e, more))
-
-    by_layer : (l : ExprLayer) → out-Expr x.node ≡ l → ChainView room p x rest
-    by_layer (Expr-F.Chain head tails) e = chain head tails e
-    by_layer (Expr-F.«Expr::Name» t) e = high 20 (rank_at _ e) (omega arith)
-    by_layer (Expr-F.This t) e = high 20 (rank_at _ e) (omega arith)
-    by_layer (Expr-F.Literal t) e = high 20 (rank_at _ e) (omega arith)
-    by_layer (Expr-F.Template t) e = high 20 (rank_at _ e) (omega arith)
-    by_layer (Expr-F.«Expr::Paren» begin inner end) e = high 20 (rank_at _ e) (omega arith)
-    by_layer (Expr-F.«Expr::Fun» f) e = high 20 (rank_at _ e) (omega arith)
-    by_layer (Expr-F.NewTarget word dot target) e = high 20 (rank_at _ e) (omega arith)
-    by_layer (Expr-F.New word head tails args) e = by_args args (rank_at (Expr-F.New word head tails args) e)
-      where
-        by_args : (o : Option (Bracket Expr)) → (expr x.node).rank ≡ expr_rank (expr_layer (Expr-F.New word head tails o)) → ChainView room p x rest
-        by_args None k = high 18 k (omega arith)
-        by_args (Some a) k = high 19 k (omega arith)
-    by_layer (Expr-F.Comma first others) e = low 0 (rank_at _ e) (omega arith)
-    by_layer (Expr-F.Assign target op value) e = low 1 (rank_at _ e) (omega arith)
-    by_layer (Expr-F.Cond arms last) e = low 2 (rank_at _ e) (omega arith)
-    by_layer (Expr-F.Binary l first others) e = low (binary_rank l) (rank_at _ e) (omega (arith, leb-true l 10 (at_line p x.node rest (Expr-F.Binary l first others) e r).0))
-    by_layer (Expr-F.Power base op exponent) e = low 13 (rank_at _ e) (omega arith)
-    by_layer (Expr-F.Unary op operand) e = by_update (is_update (kind_of op)) (rank_at (Expr-F.Unary op operand) e)
-      where
-        by_update : (b : Bool) → (expr x.node).rank ≡ (if b then UPDATE else UNARY) → ChainView room p x rest
-        by_update true k = low 15 k (omega arith)
-        by_update false k = low 14 k (omega arith)
-    by_layer (Expr-F.Postfix target op) e = low 16 (rank_at _ e) (omega arith)
+pub has_tails : (room : ℕ) (head x : Value) (behind rest : List Piece) (m : Place) → AloneOr TakesTails head x behind rest → ValueAt CHAIN room x → Stops CHAIN rest → Reads m behind → HasTails room head x m rest
+has_tails room head x behind rest m (Alone e b) at s r = record {
+  tails = [];
+  read = subst (Reads m) b r;
+  at = record { each = refl; height = refl; fits = omega arith };
+  ends = no_tail true rest s;
+  alone = λ none. sym e;
+  chain = λ some. absurd (true≢false some);
+}
+has_tails room head x behind rest m (With w) at s r =
+    let h = chain_height x.node head.node w.tails w.is in
+    record {
+      tails = w.tails;
+      read = subst (Reads m) w.behind r;
+      at = record { each = may_all w.tails ∙ w.each; height = refl; fits = omega (arith, h, at.height, at.fits) };
+      ends = no_tail true rest s;
+      alone = λ none. absurd (true≢false (sym none ∙ w.some));
+      chain = λ some. w.is;
+    }
 
 -- a chain that is put together, as it is seen and as it is read
 pub chain_seen : (x : Expr) (head : Expr) (tails : List (Tail Expr)) → roll-Expr (Expr-F.Chain head tails) ≡ x → (below : ℕ) (target : Bool) → below ≡ max (expr head).height (tallest_of tail_height tails) → target ≡ (expr x).is_target → IsSeen x below CHAIN target
@@ -362,26 +326,11 @@ read_none p ts rest e r = subst (λ (us : List (Tail Expr)). Reads p (tails_line
 pub same_chain : (x made head head' : Expr) (tails tails' : List (Tail Expr)) → roll-Expr (Expr-F.Chain head tails) ≡ made → out-Expr x ≡ Expr-F.Chain head' tails' → head ≡ head' → tails ≡ tails' → made ≡ x
 same_chain x made head head' tails tails' rolled layer h t = sym rolled ∙ (λ i. roll-Expr (Expr-F.Chain (h i) (t i))) ∙ node_of x (Expr-F.Chain head' tails') layer
 
--- a head of a lower rank than a primary stands alone
-pub alone_low : (head : Expr) (tails : List (Tail Expr)) (x : Value) → (expr head).rank < MADE → IsAlone head tails x ⊎ IsChain head tails x → IsAlone head tails x
-alone_low head tails x less (inl a) = a
-alone_low head tails x less (inr b) = absurd (omega (arith, less, b.made))
-
--- so does one without tails
-pub alone_empty : (head : Expr) (tails : List (Tail Expr)) (x : Value) → is_empty tails ≡ true → IsAlone head tails x ⊎ IsChain head tails x → IsAlone head tails x
-alone_empty head tails x none (inl a) = a
-alone_empty head tails x none (inr b) = absurd (true≢false (sym none ∙ b.some))
-
--- with tails it is a chain
-pub chain_some : (head : Expr) (tails : List (Tail Expr)) (x : Value) → is_empty tails ≡ false → IsAlone head tails x ⊎ IsChain head tails x → IsChain head tails x
-chain_some head tails x some (inl a) = absurd (true≢false (sym (ap is_empty a.none) ∙ some))
-chain_some head tails x some (inr b) = b
-
 -- no chain begins with a direct call of `eval`
-pub eval_called : (m : Place) (k : TokenKind) → IsNextKind m k → is kinds.LeftParen k ≡ true → (head : Expr) (tails : List (Tail Expr)) (x : Value) (rest : List Piece)
-    → is_named (codes "eval") (expr head) ≡ true → NoKind (begins_tail true) rest → Reads m (tails_line tails rest) → IsAlone head tails x ⊎ IsChain head tails x → ⊥
-eval_called m k next paren head tails x rest named ends r (inl a) =
+pub eval_called : (m : Place) (k : TokenKind) → IsNextKind m k → is kinds.LeftParen k ≡ true → (head x : Value) (behind rest : List Piece) → is_named (codes "eval") (expr head.node) ≡ true
+    → AloneOr TakesTails head x behind rest → Stops CHAIN rest → Reads m behind → ⊥
+eval_called m k next paren head x behind rest named (Alone e b) s r =
     let t = next_of kinds.LeftParen refl m k next paren in
-    true≢false (sym (ap (begins_tail true) t.3) ∙ ends m (subst (λ (ts : List (Tail Expr)). Reads m (tails_line ts rest)) a.none r) t.0 t.1 t.2 (ap (reads goal.Operator) t.3))
-eval_called m k next paren head tails x rest named ends r (inr b) =
-    true≢false (sym (λ i. named i && begins_call m k next paren tails rest b.some r i) ∙ b.direct)
+    true≢false (sym (ap (begins_tail true) t.3) ∙ no_tail true rest s m (subst (Reads m) b r) t.0 t.1 t.2 (ap (reads goal.Operator) t.3))
+eval_called m k next paren head x behind rest named (With w) s r =
+    true≢false (sym (λ i. named i && begins_call m k next paren w.tails rest w.some (subst (Reads m) w.behind r) i) ∙ w.direct)

@@ -29,17 +29,17 @@ use Rattle.js_tokens.specs.Ahead.{reads}
 use Rattle.js_tokens.specs.Pieces.{Reads, Read, Passes, Refuses}
 use Rattle.js_tokens.specs.declared.fault.TokenFault.{TokenFault}
 use Rattle.js_tokens.specs.declared.goal.Goal.TheVariants as goal
-use Rattle.js_parser.proofs.AssignLemmas.{alike, assign_stops, covering}
+use Rattle.js_parser.proofs.AssignLemmas.{alike, assign_stops, assign_told, covering}
 use Rattle.js_parser.proofs.BeginLemmas.{stops_before, stops_higher}
 use Rattle.js_parser.proofs.ExprLemmas.{value_at, value_of}
 use Rattle.js_parser.proofs.HeadLemmas.{at_line, rank_at}
-use Rattle.js_parser.proofs.LeadLemmas.{Leads, at_higher, at_least, first_read, least_at}
+use Rattle.js_parser.proofs.LeadLemmas.{Leads, Views, at_higher, at_least, first_read, least_at}
 use Rattle.js_parser.proofs.MadeLemmas.{read_at, seen_at}
 use Rattle.js_parser.proofs.PlaceLemmas.{moved, passes_none, passes_on}
 use Rattle.js_parser.proofs.ReadLemmas.{IsWant, gives}
-use Rattle.js_parser.proofs.StrengthLemmas.{of_assignment, plain_assignment}
+use Rattle.js_parser.specs.Behind.{AfterTest, IsAssigned, IsChosen, IsNever, AloneOr, Alone, With, AssignsTo, Chooses, ReadsArm, arm_height, arm_line, arm_stands, tall_arm}
 use Rattle.js_parser.specs.Following.{IsStrength, Stops, strength}
-use Rattle.js_parser.specs.Nodes.{AssignsTo, Stays, Assigns, Chooses, IsSeen, ReadsArm, ReadsExpr, ValueAt, arm_height, arm_line, arm_stands, expr_line, tall_arm, value_line}
+use Rattle.js_parser.specs.Nodes.{IsSeen, ReadsExpr, ValueAt, expr_line, value_line}
 use Rattle.js_parser.specs.declared.tall.Tall.{Tall}
 use Rattle.js_parser.specs.declared.tall.Value.{Value}
 
@@ -63,23 +63,17 @@ cond_height x arms last e =
 
 -- WITH WHAT AN ASSIGNMENT OR A CHOICE BEGINS
 
--- what is assigned, or the rest of a choice
-pub data AfterTest (head x : Value) (behind rest : List Piece) : Type 0 where
-  IsAssigned : AssignsTo head x behind rest → AfterTest head x behind rest
-  IsChosen : Chooses head x behind rest → AfterTest head x behind rest
-  IsNever : ((m : Place) → Reads m behind → ⊥) → AfterTest head x behind rest
-
 unequal : (n : ℕ) → not (n == COND) ≡ true → n ≡ COND → ⊥
 unequal n h e = true≢false (sym h ∙ ap not (itself n e))
   where
     itself : (n : ℕ) → n ≡ COND → (n == COND) ≡ true
     itself n e = grind (arith, nat_tests, e)
 
-pub assign_view : (room : ℕ) (p : Place) (x : Value) (rest : List Piece) → Reads p (value_line x rest) → ValueAt ASSIGN room x → Stops ASSIGN rest → Leads AfterTest BINARY room p x rest
+pub assign_view : (room : ℕ) (p : Place) → Views AfterTest BINARY ASSIGN room p
 assign_view room p x rest r at s = by_layer (out-Expr x.node) refl
   where
     stays : nat_le BINARY (expr x.node).rank ≡ true → Leads AfterTest BINARY room p x rest
-    stays h = record { first = x; behind = rest; read = r; at = at_higher ASSIGN BINARY room x h at; stops = stops_higher ASSIGN BINARY rest (omega arith) s; after = IsAssigned (Stays refl refl) }
+    stays h = record { first = x; behind = rest; read = r; at = at_higher ASSIGN BINARY room x h at; stops = stops_higher ASSIGN BINARY rest (omega arith) s; after = IsAssigned (Alone refl refl) }
 
     by_rank : (n : ℕ) → (expr x.node).rank ≡ n → BINARY ≤ n → Leads AfterTest BINARY room p x rest
     by_rank n e le = stays (least_at BINARY (expr x.node).rank (omega (arith, e, le)))
@@ -156,7 +150,7 @@ assign_view room p x rest r at s = by_layer (out-Expr x.node) refl
           at = value_at BINARY room c.target (ap (λ (b : Bool). b && nat_le BINARY (expr c.target).rank) c.sound ∙ least_at BINARY (expr c.target).rank (omega (arith, at_least CHAIN (expr c.target).rank c.high)))
               (omega (arith, a.height, h, at.height, at.fits));
           stops = assign_stops BINARY op (expr_line given rest) (omega arith);
-          after = IsAssigned (Assigns target op given e c.covers refl);
+          after = IsAssigned (With (record { target = target; op = op; given = given; is = e; covers = c.covers; good = all.1; behind = refl }));
         }
     by_layer (Expr-F.Cond arms last) e = by_arms arms last e
     by_layer (Expr-F.Binary l first others) e = by_level l first others e
@@ -174,13 +168,11 @@ assign_view room p x rest r at s = by_layer (out-Expr x.node) refl
     by_layer (Expr-F.NewTarget word dot target) e = by_rank 20 (rank_at x.node (Expr-F.NewTarget word dot target) e) (omega arith)
 
 -- nothing is assigned where a `?` stands next
-no_assign : (m : Place) → IsStrength m 3 → (head x : Value) (behind rest : List Piece) → AssignsTo head x behind rest → Stops ASSIGN rest → Reads m behind → ⊥
-no_assign m is head x behind rest (Stays e f) s r =
+no_assign : (m : Place) → IsStrength m 3 → (head x : Value) (behind rest : List Piece) → AloneOr AssignsTo head x behind rest → Stops ASSIGN rest → Reads m behind → ⊥
+no_assign m is head x behind rest (Alone e f) s r =
     let t = is.some (omega arith) in
     omega (arith, is.all t.0 t.1 t.2 t.3, s m (subst (Reads m) f r) t.0 t.1 t.2 t.3)
-no_assign m is head x behind rest (Assigns target op given e c f) s r =
-    let q = subst (Reads m) f r in
-    omega (arith, is.all op q.0 q.1 (plain_assignment (kind_of op) q.2), of_assignment (kind_of op) op.nl_before q.2)
+no_assign m is head x behind rest (With w) s r = omega (arith, assign_told head x behind rest w m 3 is r)
 
 -- a choice isn't what is assigned, nor the other way round
 pub to_choice : (m : Place) → IsStrength m 3 → (head x : Value) (behind rest : List Piece) → AfterTest head x behind rest → Stops ASSIGN rest → Reads m behind → Chooses head x behind rest
@@ -194,7 +186,7 @@ asked m n question rest is r =
     let k : kind_of question ≡ kinds.Question = is_same kinds.Question (kind_of question) r.2 in
     sym (is.all question r.0 r.1 (ap (reads goal.Operator) k)) ∙ ap (λ j. strength j question.nl_before) k
 
-pub to_assigned : (m : Place) (n : ℕ) → IsStrength m n → (n ≡ 3 → ⊥) → (head x : Value) (behind rest : List Piece) → AfterTest head x behind rest → Reads m behind → AssignsTo head x behind rest
+pub to_assigned : (m : Place) (n : ℕ) → IsStrength m n → (n ≡ 3 → ⊥) → (head x : Value) (behind rest : List Piece) → AfterTest head x behind rest → Reads m behind → AloneOr AssignsTo head x behind rest
 to_assigned m n is other head x behind rest (IsAssigned a) r = a
 to_assigned m n is other head x behind rest (IsNever f) r = absurd (f m r)
 to_assigned m n is other head x behind rest (IsChosen c) r = absurd (other (asked m n c.question _ is (subst (Reads m) c.behind r)))
@@ -233,7 +225,7 @@ pub record FurtherArm (test : Expr) (ys : List (Arm Expr)) (last : Expr) (more r
 
 -- what stands behind a test: what is assigned to it, or a further arm
 pub data AfterArm (ys : List (Arm Expr)) (last : Expr) (head x : Value) (behind rest : List Piece) : Type 0 where
-  IsLast : ys ≡ [] → AssignsTo head (value_of last) behind rest → AfterArm ys last head x behind rest
+  IsLast : ys ≡ [] → AloneOr AssignsTo head (value_of last) behind rest → AfterArm ys last head x behind rest
   IsFurther : FurtherArm head.node ys last behind rest → AfterArm ys last head x behind rest
   IsNot : ((m : Place) → Reads m behind → ⊥) → AfterArm ys last head x behind rest
 
@@ -339,7 +331,7 @@ pub record Settled (room : ℕ) (arms : List (Arm Expr)) (test x : Value) (n : P
   pub behind : List Piece
   pub is : out-Expr x.node ≡ Expr-F.Cond arms last
   pub at : ArmsAt room [] last
-  pub after : AssignsTo test (value_of last) behind rest
+  pub after : AloneOr AssignsTo test (value_of last) behind rest
   pub read : Reads n behind
 
 module _ (room : ℕ) (head : Value) (m : Place) (arms : List (Arm Expr)) (test : Value) (n : Place) (chosen : Chosen room head m arms test n) where

@@ -1,5 +1,5 @@
 -- Expressions as values.
-use Rattle.std.proofs.Common.{◌≡◌, ℕ, ◌+◌, ◌≤◌, ◌<◌, ◌==◌, true, false, Bool, ◌&&◌, refl, sym, ap, ◌∙◌, arith, subst, List, length, Result, Ok, Err, ⊎_elim, ◌⊎◌, if◌then◌else◌}
+use Rattle.std.proofs.Common.{◌≡◌, ℕ, ◌+◌, ◌≤◌, ◌<◌, ◌==◌, true, false, Bool, ◌&&◌, refl, sym, ap, ◌∙◌, arith, subst, List, length, Result, Ok, Err, ⊎_elim, if◌then◌else◌}
 use Rattle.std.proofs.lemmas.Bool.Decides.{nat_tests}
 use Rattle.js_tree.specs.Pieces.{Piece}
 use Rattle.js_tree.specs.Spelling.{expr}
@@ -39,6 +39,9 @@ list_low rank list = ⊎_elim (λ (z : rank ≡ 0). omega (arith, z)) (λ (b : (
 
 pub rests : (level : ℕ) (x : Value) (rest : List Piece) → level < NEW → Stops level rest → ValueStops level x rest
 rests level x rest low s = subst (λ (n : ℕ). Stops n rest) (sym (rests_at level (expr x.node).rank low)) s
+
+pub stops_of : (level : ℕ) (x : Value) (rest : List Piece) → level < NEW → ValueStops level x rest → Stops level rest
+stops_of level x rest low s = subst (λ (n : ℕ). Stops n rest) (rests_at level (expr x.node).rank low) s
 
 -- a value of a level is one of each lower level
 pub at_lower : (level lower room : ℕ) (x : Value) → lower ≤ level → ValueAt level room x → ValueAt lower room x

@@ -1,5 +1,5 @@
 -- Powers, operators before and behind an operand, and chains: which of them an expression is by its rank, and with what it begins.
-use Rattle.std.proofs.Common.{◌≡◌, ◌⊎◌, ⊎_elim, inl, inr, ℕ, ◌+◌, ◌<◌, ◌≤◌, max, Bool, true, false, ◌&&◌, ◌||◌, not, List, ◌∷◌, refl, sym, ap, ◌∙◌, subst, arith, true≢false, if◌then◌else◌}
+use Rattle.std.proofs.Common.{◌≡◌, ◌⊎◌, ⊎_elim, inl, inr, ℕ, ◌+◌, ◌-◌, ◌<◌, ◌≤◌, max, Bool, true, false, ◌&&◌, ◌||◌, not, List, ◌∷◌, refl, sym, ap, ◌∙◌, subst, arith, true≢false, if◌then◌else◌}
 use Rattle.std.proofs.lemmas.Bool.{and_parts}
 use Rattle.std.specs.Prelude.{nat_le, Option, Some, None}
 use Rattle.js_tree.specs.declared.lists.Bracket.{Bracket}
@@ -27,10 +27,11 @@ use Rattle.js_tokens.specs.declared.goal.Goal.TheVariants as goal
 use Rattle.js_parser.proofs.BeginLemmas.{stops_before, stops_higher}
 use Rattle.js_parser.proofs.ExprLemmas.{at_lower, value_of, value_at}
 use Rattle.js_parser.proofs.HeadLemmas.{Head, IsName, IsThis, IsLiteral, IsTemplate, IsParen, IsFun, IsNewTarget, IsNew, at_line, head_of, rank_at, sort_of, sort_told, token_told}
-use Rattle.js_parser.proofs.LeadLemmas.{Leads, at_higher, at_least, least_at}
+use Rattle.js_parser.proofs.LeadLemmas.{Leads, Views, at_higher, at_least, least_at}
 use Rattle.js_parser.proofs.ParenLemmas.{sound_at}
 use Rattle.js_parser.proofs.StrengthLemmas.{of_update, plain_unary, plain_update}
 use Rattle.js_parser.proofs.TokenLemmas.{told}
+use Rattle.js_parser.specs.Behind.{AloneOr, Alone, With, Raises, UpdatesTarget}
 use Rattle.js_parser.specs.Following.{IsStrength, Leads as LeadsTo, Stops, primary_of, strength}
 use Rattle.js_parser.specs.Nodes.{ValueAt, expr_line, value_line}
 use Rattle.js_parser.specs.declared.kinds.Primary.TheVariants as sorts
@@ -76,10 +77,10 @@ strong p x rest r h = by_layer (out-Expr x) refl
     by_layer (Expr-F.Comma first others) e = low 0 (rank_at x (Expr-F.Comma first others) e) (omega arith)
 
 -- of another rank than is said
-below : {Q : Type 0} (level n : ℕ) (x : Expr) → (expr x).rank ≡ n → n < level → nat_le level (expr x).rank ≡ true → Q
+pub below : {Q : Type 0} (level n : ℕ) (x : Expr) → (expr x).rank ≡ n → n < level → nat_le level (expr x).rank ≡ true → Q
 below level n x e less h = absurd (omega (arith, e, less, at_least level (expr x).rank h))
 
-rank-Unary : (x : Expr) (op : Token) (operand : Expr) → out-Expr x ≡ Expr-F.Unary op operand → (expr x).rank < POSTFIX
+pub rank-Unary : (x : Expr) (op : Token) (operand : Expr) → out-Expr x ≡ Expr-F.Unary op operand → (expr x).rank < POSTFIX
 rank-Unary x op operand e = by_update (is_update (kind_of op)) (rank_at x (Expr-F.Unary op operand) e)
   where
     by_update : (b : Bool) → (expr x).rank ≡ (if b then UPDATE else UNARY) → (expr x).rank < POSTFIX
@@ -117,19 +118,13 @@ target_high x h = by_layer (out-Expr x) refl
 
 -- POWERS
 
--- what stands behind a base
-pub data AfterBase (room : ℕ) (head x : Value) (behind rest : List Piece) : Type 0 where
-  NotRaised : x ≡ head → behind ≡ rest → AfterBase room head x behind rest
-  Raised : (op : Token) (exponent : Expr) → out-Expr x.node ≡ Expr-F.Power head.node op exponent → stands UPDATE (expr head.node) ≡ true → stands POWER (expr exponent) ≡ true
-      → (expr exponent).height < room → behind ≡ mark pieces kinds.Stars op (expr_line exponent rest) → AfterBase room head x behind rest
-
-pub power_view : (room : ℕ) (p : Place) (x : Value) (rest : List Piece) → Reads p (value_line x rest) → ValueAt POWER room x → Stops POWER rest → Leads (AfterBase room) UNARY room p x rest
+pub power_view : (room : ℕ) (p : Place) → Views (AloneOr Raises) UNARY POWER room p
 power_view room p x rest r at s = by_form (strong p x.node rest r (and_parts _ _ at.stands).1)
   where
-    stays : nat_le UNARY (expr x.node).rank ≡ true → Leads (AfterBase room) UNARY room p x rest
-    stays h = record { first = x; behind = rest; read = r; at = at_higher POWER UNARY room x h at; stops = stops_higher POWER UNARY rest (omega arith) s; after = NotRaised refl refl }
+    stays : nat_le UNARY (expr x.node).rank ≡ true → Leads (AloneOr Raises) UNARY room p x rest
+    stays h = record { first = x; behind = rest; read = r; at = at_higher POWER UNARY room x h at; stops = stops_higher POWER UNARY rest (omega arith) s; after = Alone refl refl }
 
-    by_form : Strong x.node → Leads (AfterBase room) UNARY room p x rest
+    by_form : Strong x.node → Leads (AloneOr Raises) UNARY room p x rest
     by_form (IsPower base op exponent e) =
         let m = at_line p x.node rest (Expr-F.Power base op exponent) e r in
         let h : (expr x.node).height ≡ max (expr base).height (max (expr exponent).height 0) + 1 = ap (λ (t : Seen). t.height) (at_expr x.node (Expr-F.Power base op exponent) e) in
@@ -139,7 +134,7 @@ power_view room p x rest r at s = by_form (strong p x.node rest r (and_parts _ _
           read = m.1.1;
           at = at_lower UPDATE UNARY room (value_of base) (omega arith) (value_at UPDATE room base m.0 (omega (arith, h, at.height, at.fits)));
           stops = stops_before UNARY (POWER + 1) kinds.Stars refl (λ nl. refl) (omega arith) op (expr_line exponent rest);
-          after = Raised op exponent e m.0 m.1.0 (omega (arith, h, at.height, at.fits)) refl;
+          after = With (record { op = op; exponent = exponent; is = e; base = m.0; good = m.1.0; behind = refl });
         }
     by_form (IsUnary op operand e) = stays (by_update (is_update (kind_of op)) (rank_at x.node (Expr-F.Unary op operand) e))
       where
@@ -150,41 +145,22 @@ power_view room p x rest r at s = by_form (strong p x.node rest r (and_parts _ _
     by_form (IsChain head tails e) = stays (ap (nat_le UNARY) (rank_at x.node (Expr-F.Chain head tails) e))
     by_form (IsHigh h) = stays (least_at UNARY (expr x.node).rank (omega (arith, at_least NEW (expr x.node).rank h)))
 
--- the base alone
-pub not_raised : (room : ℕ) (head x : Value) (behind rest : List Piece) (m : Place) → AfterBase room head x behind rest → (expr head.node).rank < UPDATE → Reads m behind → (head ≡ x) × Reads m rest
-not_raised room head x behind rest m (NotRaised e b) low r = (sym e, subst (Reads m) b r)
-not_raised room head x behind rest m (Raised op exponent e base good tall b) low r = absurd (omega (arith, low, at_least UPDATE (expr head.node).rank (and_parts _ _ base).1))
-
-pub no_stars : (room : ℕ) (head x : Value) (behind rest : List Piece) (m : Place) (n : ℕ) → AfterBase room head x behind rest → IsStrength m n → (n ≡ 14 → ⊥) → Reads m behind → (head ≡ x) × Reads m rest
-no_stars room head x behind rest m n (NotRaised e b) is other r = (sym e, subst (Reads m) b r)
-no_stars room head x behind rest m n (Raised op exponent e base good tall b) is other r =
-    let q = subst (Reads m) b r in
-    let k : kind_of op ≡ kinds.Stars = is_same kinds.Stars (kind_of op) q.2 in
-    absurd (other (sym (is.all op q.0 q.1 (ap (reads goal.Operator) k)) ∙ ap (λ j. strength j op.nl_before) k))
+-- a `**` stands next
+pub stars_told : (head x : Value) (behind rest : List Piece) → Raises head x behind rest → (m : Place) (n : ℕ) → IsStrength m n → Reads m behind → n ≡ POWER + 1
+stars_told head x behind rest w m n is r =
+    let q = subst (Reads m) w.behind r in
+    let k : kind_of w.op ≡ kinds.Stars = is_same kinds.Stars (kind_of w.op) q.2 in
+    sym (is.all w.op q.0 q.1 (ap (reads goal.Operator) k)) ∙ ap (λ j. strength j w.op.nl_before) k
 
 pub base_stands : (room : ℕ) (x : Value) → ValueAt UNARY room x → UPDATE ≤ x.rank → stands UPDATE (expr x.node) ≡ true
 base_stands room x at le = (at_higher UNARY UPDATE room x (least_at UPDATE (expr x.node).rank (omega (arith, at.rank, le))) at).stands
 
--- the base with its exponent
-pub record IsRaised (room : ℕ) (head x : Value) (m : Place) (rest : List Piece) : Type 0 where
-  pub op : Token
-  pub exponent : Expr
-  pub is : out-Expr x.node ≡ Expr-F.Power head.node op exponent
-  pub stands : stands POWER (expr exponent) ≡ true
-  pub low : (expr exponent).height < room
-  pub read : Reads m (mark pieces kinds.Stars op (expr_line exponent rest))
-
-pub raised : (room : ℕ) (head x : Value) (behind rest : List Piece) (m : Place) → AfterBase room head x behind rest → IsStrength m 14 → Stops POWER rest → Reads m behind → IsRaised room head x m rest
-raised room head x behind rest m (NotRaised e b) is s r =
-    let t = is.some (omega arith) in
-    absurd (omega (arith, is.all t.0 t.1 t.2 t.3, s m (subst (Reads m) b r) t.0 t.1 t.2 t.3))
-raised room head x behind rest m (Raised op exponent e base good tall b) is s r = record { op = op; exponent = exponent; is = e; stands = good; low = tall; read = subst (Reads m) b r }
+pub exponent_at : (room : ℕ) (head x : Value) (behind rest : List Piece) → (w : Raises head x behind rest) → ValueAt POWER room x → ValueAt POWER (room - 1) (value_of w.exponent)
+exponent_at room head x behind rest w at =
+    let h : (expr x.node).height ≡ max (expr head.node).height (max (expr w.exponent).height 0) + 1 = ap (λ (t : Seen). t.height) (at_expr x.node (Expr-F.Power head.node w.op w.exponent) w.is) in
+    value_at POWER (room - 1) w.exponent w.good (omega (arith, h, at.height, at.fits))
 
 -- `++` AND `--` BEHIND A TARGET
-
-pub data AfterTarget (head x : Value) (behind rest : List Piece) : Type 0 where
-  NotUpdated : x ≡ head → behind ≡ rest → AfterTarget head x behind rest
-  Updated : (op : Token) → out-Expr x.node ≡ Expr-F.Postfix head.node op → (expr head.node).is_target ≡ true → behind ≡ Ahead on_line ∷ Tok op is_update ∷ rest → AfterTarget head x behind rest
 
 -- no chain goes on with it
 update_stops : (op : Token) (rest : List Piece) → Stops CHAIN (Ahead on_line ∷ Tok op is_update ∷ rest)
@@ -193,13 +169,13 @@ update_stops op rest m r t n next read =
     let e : strength (kind_of t) t.nl_before ≡ POSTFIX + 1 = ap (λ (u : Token). strength (kind_of u) u.nl_before) same.0 ∙ of_update (kind_of op) op.nl_before r.1.2 r.0 in
     omega (arith, e)
 
-pub postfix_view : (room : ℕ) (p : Place) (x : Value) (rest : List Piece) → Reads p (value_line x rest) → ValueAt POSTFIX room x → Stops POSTFIX rest → Leads AfterTarget CHAIN room p x rest
+pub postfix_view : (room : ℕ) (p : Place) → Views (AloneOr UpdatesTarget) CHAIN POSTFIX room p
 postfix_view room p x rest r at s = by_form (strong p x.node rest r (least_at POWER (expr x.node).rank (omega (arith, at_least POSTFIX (expr x.node).rank (and_parts _ _ at.stands).1))))
   where
-    stays : nat_le CHAIN (expr x.node).rank ≡ true → Leads AfterTarget CHAIN room p x rest
-    stays h = record { first = x; behind = rest; read = r; at = at_higher POSTFIX CHAIN room x h at; stops = stops_higher POSTFIX CHAIN rest (omega arith) s; after = NotUpdated refl refl }
+    stays : nat_le CHAIN (expr x.node).rank ≡ true → Leads (AloneOr UpdatesTarget) CHAIN room p x rest
+    stays h = record { first = x; behind = rest; read = r; at = at_higher POSTFIX CHAIN room x h at; stops = stops_higher POSTFIX CHAIN rest (omega arith) s; after = Alone refl refl }
 
-    by_form : Strong x.node → Leads AfterTarget CHAIN room p x rest
+    by_form : Strong x.node → Leads (AloneOr UpdatesTarget) CHAIN room p x rest
     by_form (IsPower base op exponent e) = below POSTFIX POWER x.node (rank_at x.node (Expr-F.Power base op exponent) e) (omega arith) (and_parts _ _ at.stands).1
     by_form (IsUnary op operand e) = below POSTFIX (expr x.node).rank x.node refl (rank-Unary x.node op operand e) (and_parts _ _ at.stands).1
     by_form (IsPostfix target op e) =
@@ -212,36 +188,19 @@ postfix_view room p x rest r at s = by_form (strong p x.node rest r (least_at PO
           read = m.1;
           at = value_at CHAIN room target (ap (λ (b : Bool). b && nat_le CHAIN (expr target).rank) fit.0 ∙ target_high target fit.1) (omega (arith, h, at.height, at.fits));
           stops = update_stops op rest;
-          after = Updated op e fit.1 refl;
+          after = With (record { op = op; is = e; place = fit.1; behind = refl });
         }
     by_form (IsChain head tails e) = stays (ap (nat_le CHAIN) (rank_at x.node (Expr-F.Chain head tails) e))
     by_form (IsHigh h) = stays (least_at CHAIN (expr x.node).rank (omega (arith, at_least NEW (expr x.node).rank h)))
 
--- the expression alone
-pub no_target : (head x : Value) (behind rest : List Piece) (m : Place) → AfterTarget head x behind rest → (expr head.node).is_target ≡ false → Reads m behind → (head ≡ x) × Reads m rest
-no_target head x behind rest m (NotUpdated e b) other r = (sym e, subst (Reads m) b r)
-no_target head x behind rest m (Updated op e place b) other r = absurd (true≢false (sym place ∙ other))
-
-pub no_update : (head x : Value) (behind rest : List Piece) (m : Place) (n : ℕ) → AfterTarget head x behind rest → IsStrength m n → (n ≡ 17 → ⊥) → Reads m behind → (head ≡ x) × Reads m rest
-no_update head x behind rest m n (NotUpdated e b) is other r = (sym e, subst (Reads m) b r)
-no_update head x behind rest m n (Updated op e place b) is other r =
-    let q = subst (Reads m) b r in
-    absurd (other (sym (is.all op q.1.0 q.1.1 (plain_update (kind_of op) q.1.2)) ∙ of_update (kind_of op) op.nl_before q.1.2 q.0))
+-- `++` or `--` stands next, on the line of the target
+pub update_told : (head x : Value) (behind rest : List Piece) → UpdatesTarget head x behind rest → (m : Place) (n : ℕ) → IsStrength m n → Reads m behind → n ≡ POSTFIX + 1
+update_told head x behind rest w m n is r =
+    let q = subst (Reads m) w.behind r in
+    sym (is.all w.op q.1.0 q.1.1 (plain_update (kind_of w.op) q.1.2)) ∙ of_update (kind_of w.op) w.op.nl_before q.1.2 q.0
 
 pub place_of : (level room : ℕ) (x : Value) → ValueAt level room x → x.is_target ≡ true → is_place (expr x.node) ≡ true
 place_of level room x at target = ap (λ (b : Bool). b && (expr x.node).is_target) (sound_at level room x at) ∙ sym at.target ∙ target
-
--- the target with its operator
-pub record IsUpdated (head x : Value) (m : Place) (rest : List Piece) : Type 0 where
-  pub op : Token
-  pub is : out-Expr x.node ≡ Expr-F.Postfix head.node op
-  pub read : Reads m (Tok op is_update ∷ rest)
-
-pub updated : (head x : Value) (behind rest : List Piece) (m : Place) → AfterTarget head x behind rest → IsStrength m 17 → Stops POSTFIX rest → Reads m behind → IsUpdated head x m rest
-updated head x behind rest m (NotUpdated e b) is s r =
-    let t = is.some (omega arith) in
-    absurd (omega (arith, is.all t.0 t.1 t.2 t.3, s m (subst (Reads m) b r) t.0 t.1 t.2 t.3))
-updated head x behind rest m (Updated op e place b) is s r = let q = subst (Reads m) b r in record { op = op; is = e; read = q.1 }
 
 -- OPERATORS BEFORE AN OPERAND
 

@@ -1,12 +1,10 @@
 -- A function and its parameters as their parts, and a function made of parts.
-use Rattle.std.proofs.Common.{◌≡◌, ℕ, ◌≤◌, max, map, Bool, true, false, ◌&&◌, not, List, [], ◌∷◌, Option, Some, None, is_some, refl, sym, ap, ◌∙◌, subst, arith, true≢false}
+use Rattle.std.proofs.Common.{◌≡◌, ℕ, max, map, Bool, true, false, ◌&&◌, not, List, [], ◌∷◌, Option, Some, None, is_some, refl, sym, ap, ◌∙◌, subst, arith, true≢false}
 use Rattle.js_tree.specs.declared.lists.Block.{Block}
 use Rattle.js_tree.specs.declared.lists.Bracket.{Bracket}
 use Rattle.js_tree.specs.declared.lists.Element.{Element}
 use Rattle.js_tree.specs.declared.lists.Init.{Init}
-use Rattle.js_tree.specs.declared.lists.Listed.{Listed}
 use Rattle.js_tree.specs.declared.token.Token.{Token}
-use Rattle.js_tree.specs.declared.token_kind.TokenKind.{TokenKind}
 use Rattle.js_tree.specs.declared.token_kind.TokenKind.TheVariants as kinds
 use Rattle.js_tree.specs.declared.tree.Expr.{Expr}
 use Rattle.js_tree.specs.declared.tree.Expr.TheOpen.{Function-F}
@@ -24,22 +22,17 @@ use Rattle.js_tree.specs.Spelling.Nodes.{Seen, all_within, musts, pieces, unmark
 use Rattle.js_tree.specs.Spelling.Rows.{bracket_row, each_of, element_row, may_mark}
 use Rattle.js_tree.specs.TokenKinds.{is}
 use Rattle.js_tree.proofs.Folds.{layer-Keyword, map_block, map_bracket}
-use Rattle.js_tree.proofs.KindLemmas.{is_same}
 use Rattle.js_tree.proofs.RowLemmas.{bracket_map, each_map}
 use Rattle.js_tree.proofs.SpellingLemmas.{at-Keyword, function_layer, function_line, seen_lines}
-use Rattle.js_tokens.specs.Ahead.{IsNextKind}
 use Rattle.js_tokens.specs.Pieces.{Reads}
-use Rattle.js_parser.proofs.BeginLemmas.{other_told}
-use Rattle.js_parser.proofs.BracketLemmas.{Good, bracket_good, bracket_tall, good_bracket, inside_height, within_seen}
+use Rattle.js_parser.proofs.BeginLemmas.{no_kind_before}
+use Rattle.js_parser.proofs.BracketLemmas.{as_bracket, bracket_tall, enclosed_of, in_brackets, within_seen}
+use Rattle.js_parser.specs.Brackets.{BeginsElse, EnclosedAt, inside_height, parameter_kind}
 use Rattle.js_parser.proofs.SlotLemmas.{slot_of, slot_view}
-use Rattle.js_parser.specs.Nodes.{ParameterAt, block_line, init_height, init_line, parameters_line, slot_line}
+use Rattle.js_parser.specs.Nodes.{ParametersAt, block_line, init_height, init_line, parameter_stands, parameters_line, slot_line}
 use Rattle.js_parser.specs.declared.tall.Tall.{Tall}
 
 -- PARAMETERS
-
--- an item in brackets may be a parameter
-abbrev pub fits : Element Slot → Bool
-fits x = parameter_fits (record { dots = x.dots; value = slot x.value })
 
 abbrev pub parameter_line : Element Slot → List Piece → List Piece
 parameter_line = element_row pieces slot_line
@@ -60,7 +53,7 @@ four false false c d e = absurd (true≢false (sym e))
 four false true false d e = absurd (true≢false (sym e))
 four false true true d e = (refl, refl, refl)
 
-pub parameter_view : (p : Place) (x : Element Slot) (rest : List Piece) → fits x ≡ true → Reads p (parameter_line x rest) → ParameterView p x rest
+pub parameter_view : (p : Place) (x : Element Slot) (rest : List Piece) → parameter_stands x ≡ true → Reads p (parameter_line x rest) → ParameterView p x rest
 parameter_view p x rest good r = by_dots x.dots x.value refl good r
   where
     by_init : (value : Slot) (name : Token) (init : Option (Init Expr)) → not (is_some init) ≡ true → value ≡ slot_of name init → Reads p (Tok name (is kinds.Name) ∷ init_line init rest) → (slot value).height ≡ max 1 (init_height init)
@@ -73,7 +66,7 @@ parameter_view p x rest good r = by_dots x.dots x.value refl good r
     }
     by_init value name (Some i) e node read height same = absurd (true≢false (sym e))
 
-    by_dots : (dots : Option Token) (value : Slot) → x ≡ record { dots = dots; value = value } → fits (record { dots = dots; value = value }) ≡ true → Reads p (parameter_line (record { dots = dots; value = value }) rest) → ParameterView p x rest
+    by_dots : (dots : Option Token) (value : Slot) → x ≡ record { dots = dots; value = value } → parameter_stands (record { dots = dots; value = value }) ≡ true → Reads p (parameter_line (record { dots = dots; value = value }) rest) → ParameterView p x rest
     by_dots None value same good r =
         let ok = four false (stands DECLARED (slot value)) (slot value).is_target (is_some (slot value).name) good in
         let v = slot_view p value rest ok.1 r in
@@ -81,33 +74,17 @@ parameter_view p x rest good r = by_dots x.dots x.value refl good r
     by_dots (Some t) value same good r = absurd (true≢false (sym good))
 
 -- no parameter begins with `)`
-pub no_parameter : (p : Place) (k : TokenKind) → IsNextKind p k → is kinds.RightParen k ≡ true → (x : Element Slot) (rest : List Piece) → Reads p (parameter_line x rest) → fits x ≡ true → ⊥
-no_parameter p k next here x rest r good =
-    let v = parameter_view p x rest good r in
-    other_told kinds.Name refl p k next (ap (is kinds.Name) (is_same kinds.RightParen k here)) v.name rest v.read
+pub parameters_else : BeginsElse parameter_kind kinds.RightParen
+parameters_else room x rest holds after m r t n next read = let v = parameter_view m x rest holds.0 r in no_kind_before (is kinds.RightParen) kinds.Name refl refl v.name rest m v.read t n next read
 
--- a parameter no taller than the room, with its height
-abbrev pub IsParameter : ℕ → Element Slot → Type 0
-IsParameter room x = (fits x ≡ true) × (parameter_height x ≤ room)
+pub inside_parameters : (room : ℕ) (x : Tall (Bracket Slot)) → ParametersAt room x → EnclosedAt parameter_kind room (enclosed_of x)
+inside_parameters = in_brackets slot_line parameter_stands (λ (x : Slot). (slot x).height)
 
-abbrev pub tall_parameter : Element Slot → Tall (Element Slot)
-tall_parameter x = record { node = x; height = parameter_height x }
-
-pub parameter_at : (room : ℕ) (x : Element Slot) → IsParameter room x → ParameterAt room (tall_parameter x)
-parameter_at room x at = record { fits = at.0; height = refl; low = at.1 }
+pub parameters_in_brackets : (room : ℕ) (b : Bracket Slot) (height : ℕ) → EnclosedAt parameter_kind room (enclosed_of (record { node = b; height = height })) → ParametersAt room (record { node = b; height = height })
+parameters_in_brackets = as_bracket slot_line parameter_stands (λ (x : Slot). (slot x).height)
 
 abbrev pub parameters_height : Bracket Slot → ℕ
 parameters_height b = inside_height parameter_height b.front b.last
-
--- what is asked of all parameters is asked of each
-abbrev AreGood : ℕ → List (Listed (Element Slot)) → Option (Element Slot) → Type 0
-AreGood room = Good parameter_line (IsParameter room) (λ x rest. Unit {0})
-
-pub parameters_good : (room : ℕ) (b : Bracket Slot) (height : ℕ) → all_within fits b ≡ true → height ≡ parameters_height b → height ≤ room → AreGood room b.front b.last
-parameters_good room = bracket_good parameter_line fits parameter_height room (λ x rest. Unit {0})
-
-pub good_parameters : (room : ℕ) (b : Bracket Slot) → AreGood room b.front b.last → (all_within fits b ≡ true) × (parameters_height b ≤ room)
-good_parameters room = good_bracket parameter_line fits parameter_height room (λ x rest. Unit {0})
 
 -- the height of parameters as the rows have it
 pub parameters_tall : (b : Bracket Slot) → bracket_row unmarked (λ (s : Slot) h. max (slot s).height h) b 0 ≡ parameters_height b
@@ -135,10 +112,10 @@ module _ (f : Function) (word : Token) (name : Option Token) (params : Bracket S
       by_name None = refl
       by_name (Some t) = refl
 
-  fits_seen : all_within parameter_fits (map_bracket slot params) ≡ all_within fits params
+  fits_seen : all_within parameter_fits (map_bracket slot params) ≡ all_within parameter_stands params
   fits_seen = within_seen parameter_fits slot params
 
-  line_seen : (rest : List Piece) → (function f).line rest ≡ Must (all_within fits params) ∷ Tok word (is kinds.Function) ∷ may_mark pieces kinds.Name name (parameters_line params (block_line body rest))
+  line_seen : (rest : List Piece) → (function f).line rest ≡ Must (all_within parameter_stands params) ∷ Tok word (is kinds.Function) ∷ may_mark pieces kinds.Name name (parameters_line params (block_line body rest))
   line_seen rest =
       function_line f rest ∙ ap (λ (l : FunctionLayer). musts (function_musts (function_layer l)) (function_row seen_lines l rest)) layer
       ∙ ap (λ (l : Function-F Seen Seen Seen Seen Seen). musts (function_musts l) (function_row seen_lines (Function-F.Keyword word name params body) rest)) (layer-Keyword expr function pattern stmt slot word name params body)
@@ -156,7 +133,7 @@ module _ (f : Function) (word : Token) (name : Option Token) (params : Bracket S
       ∙ bracket_tall (λ (s : Slot). (slot s).height) params (stmts_height body.body)
 
   -- a function made of parts
-  pub function_made : (p : Place) (rest : List Piece) → all_within fits params ≡ true → Reads p (Tok word (is kinds.Function) ∷ may_mark pieces kinds.Name name (parameters_line params (block_line body rest)))
+  pub function_made : (p : Place) (rest : List Piece) → all_within parameter_stands params ≡ true → Reads p (Tok word (is kinds.Function) ∷ may_mark pieces kinds.Name name (parameters_line params (block_line body rest)))
       → Reads p ((function f).line rest)
   function_made p rest good r = subst (λ (ps : List Piece). Reads p ps) (sym (line_seen rest)) (good, r)
 
@@ -167,7 +144,7 @@ pub record FunctionView (p : Place) (f : Function) (rest : List Piece) : Type 0 
   pub params : Bracket Slot
   pub body : Block Stmt
   pub node : f ≡ made.Keyword word name params body
-  pub good : all_within fits params ≡ true
+  pub good : all_within parameter_stands params ≡ true
   pub read : Reads p (Tok word (is kinds.Function) ∷ may_mark pieces kinds.Name name (parameters_line params (block_line body rest)))
   pub height : (function f).height ≡ max (parameters_height params) (stmts_height body.body)
 

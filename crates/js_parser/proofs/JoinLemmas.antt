@@ -12,22 +12,22 @@ use Rattle.js_tree.specs.Lexing.{Place}
 use Rattle.js_tree.specs.Operators.{is_binary}
 use Rattle.js_tree.specs.Pieces.{Piece, Onto}
 use Rattle.js_tree.specs.Spelling.{expr}
-use Rattle.js_tree.specs.Spelling.Nodes.{Seen, ASSIGN, BINARY, POWER, NEW, LEVELS, all_further, binary_rank, is_empty, pieces, stands}
+use Rattle.js_tree.specs.Spelling.Nodes.{Seen, ASSIGN, BINARY, POWER, LEVELS, all_further, binary_rank, is_empty, pieces, stands}
 use Rattle.js_tree.specs.Spelling.Rows.{each_of, further_row}
 use Rattle.js_tree.specs.TokenKinds.{is as is_kind}
 use Rattle.js_tree.proofs.SpellingLemmas.{at_expr}
 use Rattle.js_tokens.specs.Pieces.{Reads, Read}
 use Rattle.js_tokens.specs.declared.fault.TokenFault.{TokenFault}
 use Rattle.js_parser.proofs.BeginLemmas.{stops_higher}
-use Rattle.js_parser.proofs.ExprLemmas.{list_low, node_of, rests, rests_at, value_at, value_of}
-use Rattle.js_parser.proofs.LeadLemmas.{Leads, at_least, first_fails, least_at, read_on}
+use Rattle.js_parser.proofs.ExprLemmas.{list_low, node_of, rests, stops_of, value_at, value_of}
+use Rattle.js_parser.proofs.LeadLemmas.{Leads, Views, at_least, fails_through, goes_as, goes_through, least_at}
 use Rattle.js_parser.proofs.ListedLemmas.{all_seen, empty_seen, height_seen, list_view, ListView, seen_others}
 use Rattle.js_parser.proofs.MadeLemmas.{read_at, seen_at}
-use Rattle.js_parser.proofs.OperandLemmas.{goes_no_further, goes_on, operand_stops}
-use Rattle.js_parser.proofs.ReadLemmas.{IsWant}
-use Rattle.js_parser.proofs.TokenLemmas.{equal}
+use Rattle.js_parser.proofs.OperandLemmas.{operand_stops}
+use Rattle.js_parser.proofs.TokenLemmas.{equal, separates_plain, separates_strength}
+use Rattle.js_parser.specs.Behind.{AloneOr, Alone, With, GoesOn, Joins, JoinsFrom, JoinsNone, JoinsMore, Through}
 use Rattle.js_parser.specs.Following.{IsStrength, Stops}
-use Rattle.js_parser.specs.Nodes.{GoesOn, IsListRank, is_level, IsSeen, Joins, Alone, First, OperandsAt, ReadsExpr, ValueAt, ValueStops, expr_line, further_height, further_line, further_stands, list_layer, value_line}
+use Rattle.js_parser.specs.Nodes.{IsListRank, is_level, IsSeen, OperandsAt, ValueAt, ValueStops, expr_line, further_height, further_line, further_stands, list_layer}
 use Rattle.js_parser.specs.declared.tall.Value.{Value}
 
 -- THE LAYER OF A LIST
@@ -122,24 +122,20 @@ others_at rank room list x first others is each some at =
 
 -- WITH WHAT A LIST BEGINS
 
-stops_of : (level : ℕ) (x : Value) (rest : List Piece) → level < NEW → ValueStops level x rest → Stops level rest
-stops_of level x rest low s = subst (λ (n : ℕ). Stops n rest) (rests_at level (expr x.node).rank low) s
-
-pub joined_view : (rank room : ℕ) → IsListRank rank → (p : Place) (x : Value) (rest : List Piece) → Reads p (value_line x rest) → ValueAt rank room x → ValueStops rank x rest
-    → Leads (Joins rank) (rank + 1) room p x rest
+pub joined_view : (rank room : ℕ) → IsListRank rank → (p : Place) → Views (AloneOr (Joins rank)) (rank + 1) rank room p
 joined_view rank room list p x rest r at stops = by_view (list_view rank room list p x rest at r)
   where
     s : Stops rank rest
     s = let low = list_low rank list in stops_of rank x rest (omega (arith, low)) stops
 
-    by_view : ListView rank p x.node rest ⊎ ValueAt (rank + 1) room x → Leads (Joins rank) (rank + 1) room p x rest
+    by_view : ListView rank p x.node rest ⊎ ValueAt (rank + 1) room x → Leads (AloneOr (Joins rank)) (rank + 1) room p x rest
     by_view (inl v) = record {
       first = value_of v.first;
       behind = each_of (further_line rank) v.others rest;
       read = v.read;
       at = value_at (rank + 1) room v.first v.stands (omega (arith, v.height, at.height, at.fits));
       stops = rests (rank + 1) (value_of v.first) (each_of (further_line rank) v.others rest) (list_low rank list) (operand_stops rank list v.others rest s);
-      after = First v.others v.is v.each v.some refl;
+      after = With (record { others = v.others; is = v.is; each = v.each; some = v.some; behind = refl });
     }
     by_view (inr higher) = record {
       first = x;
@@ -150,66 +146,65 @@ joined_view rank room list p x rest r at stops = by_view (list_view rank room li
       after = Alone refl refl;
     }
 
--- the operand alone, where another token stands next
-pub joined_alone : (rank n : ℕ) → IsListRank rank → (head x : Value) (behind rest : List Piece) (m : Place) → IsStrength m n → (n ≡ rank + 1 → ⊥) → Joins rank head x behind rest → Reads m behind
-    → (head ≡ x) × Reads m rest
-joined_alone rank n list head x behind rest m is other (Alone e b) r = (sym e, subst (Reads m) b r)
-joined_alone rank n list head x behind rest m is other (First others layer each some b) r = absurd (by_list others some (subst (Reads m) b r))
+-- what separates the operands stands next
+pub joins_told : (rank : ℕ) → IsListRank rank → (head x : Value) (behind rest : List Piece) → Joins rank head x behind rest → (m : Place) (n : ℕ) → IsStrength m n → Reads m behind → n ≡ rank + 1
+joins_told rank list head x behind rest w m n is r = by_list w.others w.some (subst (Reads m) w.behind r)
   where
-    by_list : (xs : List (Further Expr)) → is_empty xs ≡ false → Reads m (each_of (further_line rank) xs rest) → ⊥
-    by_list [] e q = true≢false e
-    by_list (y ∷ ys) e q = goes_no_further rank n list m is other y (each_of (further_line rank) ys rest) q
+    by_list : (xs : List (Further Expr)) → is_empty xs ≡ false → Reads m (each_of (further_line rank) xs rest) → n ≡ rank + 1
+    by_list [] e q = absurd (true≢false e)
+    by_list (y ∷ ys) e q = sym (is.all y.mark q.0 q.1 (separates_plain rank list _ q.2)) ∙ separates_strength rank list _ y.mark.nl_before q.2
 
--- the operands behind it
-pub record IsJoined (rank : ℕ) (head x : Value) (m : Place) (rest : List Piece) : Type 0 where
-  pub others : List (Further Expr)
-  pub is : out-Expr x.node ≡ list_layer rank head.node others
-  pub each : list_all (further_stands rank) others ≡ true
-  pub some : is_empty others ≡ false
-  pub stops : Stops rank rest
-  pub read : Reads m (each_of (further_line rank) others rest)
+-- RANK BY RANK
 
-pub joined_others : (rank : ℕ) → IsListRank rank → (head x : Value) (behind rest : List Piece) (m : Place) → IsStrength m (rank + 1) → ValueStops rank x rest → Joins rank head x behind rest → Reads m behind
-    → IsJoined rank head x m rest
-joined_others rank list head x behind rest m is stops joins r = by_case joins
-  where
-    s : Stops rank rest
-    s = let low = list_low rank list in stops_of rank x rest (omega (arith, low)) stops
+-- no list
+pub joins_none : (room rank : ℕ) (head x : Value) (behind rest : List Piece) → rank ≡ POWER → JoinsFrom room rank head x behind rest → (m : Place) → Reads m behind → (head ≡ x) × Reads m rest
+joins_none room rank head x behind rest e (JoinsNone h y b r same left) m reads = (sym same, subst (Reads m) left reads)
+joins_none room rank head x behind rest e (JoinsMore k h middle y b between r low one at stops two) m reads = absurd (omega (arith, e, low))
 
-    by_case : Joins rank head x behind rest → IsJoined rank head x m rest
-    by_case (Alone e b) = absurd (goes_on rank m is rest s (subst (Reads m) b r))
-    by_case (First others layer each some b) = record { others = others; is = layer; each = each; some = some; stops = s; read = subst (Reads m) b r }
+-- a list of the lowest rank, or none
+joins_more : (room rank : ℕ) (head x : Value) (behind rest : List Piece) → rank < POWER → JoinsFrom room rank head x behind rest
+    → Through (JoinsFrom room (rank + 1)) (AloneOr (Joins rank)) (rank + 1) room head x behind rest
+joins_more room rank head x behind rest less (JoinsNone h y b r same left) = absurd (omega (arith, less))
+joins_more room rank head x behind rest less (JoinsMore k h middle y b between r low one at stops two) =
+    record { middle = middle; between = between; one = one; at = at; stops = stops; two = two }
 
--- a first operand and what is read on behind it
-pub joined_read : (rank room : ℕ) → IsListRank rank → (p m n : Place) (head : Value) (result : Result Value TokenFault) → ReadsExpr (rank + 1) room p m (Ok head) → GoesOn (Joins rank) rank room head m n result
-    → ReadsExpr rank room p n result
-joined_read rank room list p m n head result first goes =
-    read_on {B = Joins rank} {After = Joins rank} (rank + 1) rank room p m n head result first goes (λ x rest r at s. joined_view rank room list p x rest r at s) (λ x behind rest a at s r. a)
+descends : (n lowest room : ℕ) → lowest + n ≡ POWER → BINARY ≤ lowest → (p : Place) → Views (JoinsFrom room lowest) POWER lowest room p
+descends zero lowest room e low p x rest r at s =
+    let same : POWER ≡ lowest = omega (arith, e) in
+    record {
+      first = x;
+      behind = rest;
+      read = r;
+      at = subst (λ (k : ℕ). ValueAt k room x) (sym same) at;
+      stops = subst (λ (k : ℕ). ValueStops k x rest) (sym same) s;
+      after = subst (λ (k : ℕ). JoinsFrom room k x x rest rest) same (JoinsNone x x rest rest refl refl);
+    }
+descends (suc n) lowest room e low p x rest r at s =
+    let less : lowest < POWER = omega (arith, e) in
+    let v = joined_view lowest room (inr (low, less)) p x rest r at s in
+    let w = descends n (lowest + 1) room (omega (arith, e)) (omega (arith, low)) p v.first v.behind v.read v.at v.stops in
+    record { first = w.first; behind = w.behind; read = w.read; at = w.at; stops = w.stops; after = JoinsMore lowest w.first v.first x w.behind v.behind rest less w.after v.at v.stops v.after }
 
--- nothing is asked of what is behind
-abbrev Anything : Value → Value → List Piece → List Piece → Type 0
-Anything head x behind rest = Unit {0}
+-- operands with operators of the ranks from the lowest on
+pub ranks_view : (lowest room : ℕ) → BINARY ≤ lowest → lowest ≤ POWER → (p : Place) → Views (JoinsFrom room lowest) POWER lowest room p
+ranks_view lowest room low most p = descends (POWER - lowest) lowest room (omega (arith, most)) low p
 
-descends : (n lowest upper room : ℕ) → upper ≡ lowest + n → BINARY ≤ lowest → upper ≤ POWER → (p : Place) (x : Value) (rest : List Piece) → Reads p (value_line x rest) → ValueAt lowest room x
-    → ValueStops lowest x rest → Leads Anything upper room p x rest
-descends zero lowest upper room e low most p x rest r at s =
-    let same : lowest ≡ upper = omega (arith, e) in
-    subst (λ (k : ℕ). Leads Anything k room p x rest) same (record { first = x; behind = rest; read = r; at = at; stops = s; after = tt })
-descends (suc n) lowest upper room e low most p x rest r at s =
-    let v = joined_view lowest room (inr (low, omega (arith, e, most))) p x rest r at s in
-    let w = descends n (lowest + 1) upper room (omega (arith, e)) (omega (arith, low)) most p v.first v.behind v.read v.at v.stops in
-    record { first = w.first; behind = w.behind; read = w.read; at = w.at; stops = w.stops; after = tt }
+-- one rank further down
+pub goes_below : (rank lower room : ℕ) → rank ≡ lower + 1 → rank ≤ POWER → (head middle : Value) (m k n : Place) (result : Result Value TokenFault) → GoesOn (JoinsFrom room rank) rank room head m k (Ok middle)
+    → GoesOn (AloneOr (Joins lower)) lower room middle k n result → GoesOn (JoinsFrom room lower) lower room head m n result
+goes_below rank lower room e most head middle m k n result one two =
+    goes_as lower room head m n result (goes_through (lower + 1) lower room head middle m k n result (subst (λ (j : ℕ). GoesOn (JoinsFrom room j) j room head m k (Ok middle)) e one) two)
+    (λ x behind rest a at s r. joins_more room lower head x behind rest (omega (arith, e, most)) a)
 
--- where an expression of a higher level fails one of the lowest does
-pub binary_fails : (lowest upper room : ℕ) → BINARY ≤ lowest → lowest ≤ upper → upper ≤ POWER → (p m : Place) (e : TokenFault) → ReadsExpr upper room p m (Err e)
-    → (x : Value) (rest : List Piece) → Reads p (value_line x rest) → ValueAt lowest room x → ValueStops lowest x rest → IsWant e
-binary_fails lowest upper room low less most p m e reads x rest r at s =
-    first_fails upper room p x rest (descends (upper - lowest) lowest upper room (omega (arith, less)) low most p x rest r at s) m e reads
-
--- the same, where the higher rank is told by itself
-pub joined_below : (rank lower room : ℕ) → rank ≡ lower + 1 → IsListRank lower → (p m n : Place) (head : Value) (result : Result Value TokenFault) → ReadsExpr rank room p m (Ok head)
-    → GoesOn (Joins lower) lower room head m n result → ReadsExpr lower room p n result
-joined_below rank lower room e list p m n head result first goes = joined_read lower room list p m n head result (subst (λ (k : ℕ). ReadsExpr k room p m (Ok head)) e first) goes
+-- where a rank fails each lower one does
+pub fails_below : (n lowest rank room : ℕ) → lowest + n ≡ rank → rank ≤ POWER → (head : Value) (m k : Place) (e : TokenFault) → GoesOn (JoinsFrom room rank) rank room head m k (Err e)
+    → GoesOn (JoinsFrom room lowest) lowest room head m k (Err e)
+fails_below zero lowest rank room same most head m k e goes =
+    let is : rank ≡ lowest = omega (arith, same) in
+    subst (λ (j : ℕ). GoesOn (JoinsFrom room j) j room head m k (Err e)) is goes
+fails_below (suc n) lowest rank room same most head m k e goes =
+    let above = fails_below n (lowest + 1) rank room (omega (arith, same)) most head m k e goes in
+    goes_as lowest room head m k (Err e) (fails_through (lowest + 1) lowest room head m k e above) (λ x behind rest a at s r. joins_more room lowest head x behind rest (omega (arith, same, most)) a)
 
 -- LEVELS
 

@@ -9,6 +9,7 @@ pub mod ExprLemmas
 pub mod FormLemmas
 pub mod FunctionLemmas
 pub mod HeadLemmas
+pub mod ItemLemmas
 pub mod JoinLemmas
 pub mod LeadLemmas
 pub mod ListLemmas
@@ -18,6 +19,7 @@ pub mod NewLemmas
 pub mod OperandLemmas
 pub mod ParenLemmas
 pub mod PlaceLemmas
+pub mod PrimaryLemmas
 pub mod ReadLemmas
 pub mod SlotLemmas
 pub mod StmtLemmas

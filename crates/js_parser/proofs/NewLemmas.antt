@@ -6,8 +6,6 @@ use Rattle.std.specs.Str.{bytes_eq}
 use Rattle.std.proofs.lemmas.Bool.{and_parts, leb-true, not-true}
 use Rattle.js_tree.specs.declared.lists.Bracket.{Bracket}
 use Rattle.js_tree.specs.declared.lists.Tail.{Tail}
-use Rattle.js_tree.specs.declared.lists.Tail.TheVariants as tail
-use Rattle.js_tree.specs.declared.lists.Template.{Template}
 use Rattle.js_tree.specs.declared.token.Token.{Token}
 use Rattle.js_tree.specs.declared.token_kind.TokenKind.{TokenKind}
 use Rattle.js_tree.specs.declared.token_kind.TokenKind.TheVariants as kinds
@@ -27,13 +25,11 @@ use Rattle.js_tree.proofs.RowLemmas.{args_map, tails_map}
 use Rattle.js_tree.proofs.SpellingLemmas.{at-New, seen_lines}
 use Rattle.js_tokens.specs.Ahead.{IsNextKind}
 use Rattle.js_tokens.specs.Pieces.{Read, Reads}
-use Rattle.js_tokens.specs.declared.goal.Goal.TheVariants as goal
 use Rattle.js_parser.proofs.BeginLemmas.{begins_expr, expr_told, no_kind_before, other_told}
 use Rattle.js_parser.proofs.ChainLemmas.{any_seen, args_seen, empty_seen, may_none, no_arguments, no_tail, none_may, some_seen, stops_head, stops_made, tails_seen, tails_tall, tall_tails}
 use Rattle.js_parser.proofs.ExprLemmas.{node_of, value_of, value_at}
 use Rattle.js_parser.proofs.HeadLemmas.{Head, IsName, IsThis, IsLiteral, IsTemplate, IsParen, IsFun, IsNew, IsNewTarget, at_line, head_of, sort_of, sort_told}
 use Rattle.js_parser.proofs.MadeLemmas.{out_of, read_at}
-use Rattle.js_parser.proofs.TailLemmas.{begins}
 use Rattle.js_parser.specs.Following.{NoKind, Stops, begins_tail, primary_of, rest_level}
 use Rattle.js_parser.specs.Nodes.{IsSeen, MaybeArgumentsAt, NoArguments, TailsAt, ValueAt, ValueStops, argument_stands, arguments_line, expr_line, higher, may_call, tail_height, tail_stands, tails_line, value_line}
 use Rattle.js_parser.specs.declared.kinds.Primary.TheVariants as sorts

@@ -1,5 +1,5 @@
 -- What is told of the next token.
-use Rattle.std.proofs.Common.{◌≡◌, ◌⊎◌, ⊎_elim, ℕ, ◌+◌, ◌<◌, ◌≤◌, ◌==◌, Bool, true, false, ◌&&◌, ◌||◌, not, sym, ap, ◌∙◌, subst, arith, true≢false, refl, if◌then◌else◌, ◌-◌, Result, Ok, Err, IfOk}
+use Rattle.std.proofs.Common.{◌≡◌, ⊎_elim, ℕ, ◌+◌, ◌<◌, ◌≤◌, ◌==◌, Bool, true, false, ◌&&◌, ◌||◌, not, sym, ap, ◌∙◌, subst, arith, true≢false, refl, if◌then◌else◌, ◌-◌, Result, Ok, Err, IfOk}
 use Rattle.std.specs.Prelude.{nat_le}
 use Rattle.js_tree.specs.declared.token.Token.{Token}
 use Rattle.js_tree.specs.declared.token_kind.TokenKind.{TokenKind}

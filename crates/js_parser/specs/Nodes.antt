@@ -1,11 +1,10 @@
 -- What each rule of the grammar reads, and what must hold of it.
-use Rattle.std.specs.Prelude.{◌≡◌, ℕ, ◌+◌, ◌≤◌, ◌<◌, ◌==◌, ◌-◌, nat_le, max, if◌then◌else◌, List, [], ◌∷◌, length, Option, Some, None, is_some, ◌⊎◌, Result, IfOk, IfErr, Bool, true, false, ◌&&◌, ◌||◌, not, codes}
+use Rattle.std.specs.Prelude.{◌≡◌, ℕ, ◌+◌, ◌≤◌, ◌<◌, ◌==◌, ◌-◌, nat_le, max, if◌then◌else◌, List, [], ◌∷◌, length, Option, is_some, ◌⊎◌, Result, IfOk, IfErr, Bool, true, false, ◌&&◌, ◌||◌, not, codes}
 use Rattle.std.specs.List.{list_all}
 use Rattle.std.specs.Str.{bytes_eq}
 use Rattle.std.specs.declared.alloc.Global.{Global}
 use denote.Param.Members.{Shared}
 use denote.Ref.{MutBor}
-use Rattle.js_tree.specs.declared.lists.Arm.{Arm}
 use Rattle.js_tree.specs.declared.lists.Block.{Block}
 use Rattle.js_tree.specs.declared.lists.Bracket.{Bracket}
 use Rattle.js_tree.specs.declared.lists.Element.{Element}
@@ -18,9 +17,8 @@ use Rattle.js_tree.specs.declared.lists.Template.{Template}
 use Rattle.js_tree.specs.declared.token.Token.{Token}
 use Rattle.js_tree.specs.declared.token_kind.TokenKind.{TokenKind}
 use Rattle.js_tree.specs.declared.token_kind.TokenKind.TheVariants as kind
-use Rattle.js_tree.specs.declared.tree.Expr.{Expr, out-Expr}
+use Rattle.js_tree.specs.declared.tree.Expr.{Expr}
 use Rattle.js_tree.specs.declared.tree.Expr.TheOpen.{Expr-F}
-use Rattle.js_tree.specs.declared.tree.Pattern.{Pattern}
 use Rattle.js_tree.specs.declared.tree.Function.{Function}
 use Rattle.js_tree.specs.declared.tree.Slot.{Slot}
 use Rattle.js_tree.specs.declared.tree.Stmt.{Stmt}
@@ -29,19 +27,18 @@ use Rattle.js_tree.specs.Lexing.{Place}
 use Rattle.js_tree.specs.Pieces.{Piece, Tok, Ahead, Onto}
 use Rattle.js_tree.specs.Spelling.{expr, function, slot, stmt, stmts, stmts_height, tallest_of}
 use Rattle.js_tree.specs.Spelling.Functions.{parameter_fits}
-use Rattle.js_tree.specs.Operators.{is_assignment, on_line}
+use Rattle.js_tree.specs.Operators.{on_line}
 use Rattle.js_tree.specs.Spelling.Chains.{is_call}
 use Rattle.js_tree.specs.Spelling.Patterns.{DECLARED}
-use Rattle.js_tree.specs.Spelling.Nodes.{ASSIGN, COND, BINARY, POWER, UNARY, NEW, pieces, unmarked, stands, is_empty, all_within, passes}
-use Rattle.js_tree.specs.Spelling.Rows.{mark, each_of, maybe, init_row, arm_row, bracket_row, element_row, further_row, template_parts, template_row, tail_row}
+use Rattle.js_tree.specs.Spelling.Nodes.{ASSIGN, BINARY, POWER, UNARY, NEW, pieces, unmarked, stands, is_empty, all_within, passes}
+use Rattle.js_tree.specs.Spelling.Rows.{mark, each_of, maybe, init_row, bracket_row, further_row, template_parts, template_row, tail_row}
 use Rattle.js_tree.specs.TokenKinds.{is}
-use Rattle.js_tokens.specs.Pieces.{Reads, Read, OnlyRead, Gives, Moves, Refuses, Anywhere}
+use Rattle.js_tokens.specs.Pieces.{Read, OnlyRead, Gives, Moves, Refuses, Anywhere}
 use Rattle.js_tokens.specs.declared.fault.TokenFault.{TokenFault}
 use Rattle.js_parser.specs.declared.grammar.Grammar.{Grammar}
 use Rattle.js_parser.specs.declared.tall.Tall.{Tall}
 use Rattle.js_parser.specs.declared.tall.Value.{Value}
 use Rattle.js_parser.specs.Following.{Stops, NoKind, Leads, rest_level, separates, begins_tail}
-use Rattle.js_parser.specs.Patterns.{Covers}
 
 -- LINES
 
@@ -173,74 +170,19 @@ ReadsOperands rank room = ReadsAs (λ x. each_of (further_line rank) x.node) (Op
 abbrev pub list_layer : ℕ → Expr → List (Further Expr) → ExprLayer
 list_layer rank first others = if rank == 0 then Expr-F.Comma first others else Expr-F.Binary (rank - 2) first others
 
--- WHAT FOLLOWS A FIRST EXPRESSION
-
--- what is said of a call that reads on behind an expression, from m to n: with the expression it is the answer, and
--- whatever could be read on is the answer
-pub record GoesOn (After : Value → Value → List Piece → List Piece → Type 0) (level room : ℕ) (head : Value) (m n : Place) (result : Result Value TokenFault) : Type 0 where
-  pub found : IfOk result (λ x. ((p : Place) → Read p (value_line head) m → Read p (value_line x) n) × ValueAt level room x)
-  pub only : (x : Value) (behind rest : List Piece) → After head x behind rest → ValueAt level room x → ValueStops level x rest → Reads m behind
-      → Gives result x (Reads n rest)
-  pub moves : Moves m n result
-  pub shorter : IfOk result (λ x. length n.left ≤ length m.left)
-
--- the expression alone, or a list of the rank whose first operand it is
-pub data Joins (rank : ℕ) (head x : Value) (behind rest : List Piece) : Type 0 where
-  Alone : x ≡ head → behind ≡ rest → Joins rank head x behind rest
-  First : (others : List (Further Expr)) → out-Expr x.node ≡ list_layer rank head.node others → list_all (further_stands rank) others ≡ true → is_empty others ≡ false
-      → behind ≡ each_of (further_line rank) others rest → Joins rank head x behind rest
-
--- the expression alone, or what is assigned to the pattern that it covers
-pub data AssignsTo (head x : Value) (behind rest : List Piece) : Type 0 where
-  Stays : x ≡ head → behind ≡ rest → AssignsTo head x behind rest
-  Assigns : (target : Pattern) (op : Token) (given : Expr) → out-Expr x.node ≡ Expr-F.Assign target op given → Covers head.node target
-      → behind ≡ Tok op is_assignment ∷ expr_line given rest → AssignsTo head x behind rest
-
-abbrev pub arm_line : Arm Expr → Onto
-arm_line = arm_row pieces expr_line
-
-abbrev pub arm_height : Arm Expr → ℕ
-arm_height x = max (expr x.test).height (expr x.value).height
-
--- with its height
-abbrev pub tall_arm : Arm Expr → Tall (Arm Expr)
-tall_arm x = record { node = x; height = arm_height x }
-
-abbrev pub arm_stands : Arm Expr → Bool
-arm_stands x = stands BINARY (expr x.test) && stands ASSIGN (expr x.value)
-
--- a choice whose first test is the expression
-pub record Chooses (head x : Value) (more rest : List Piece) : Type 0 where
-  pub question : Token
-  pub given : Expr
-  pub colon : Token
-  pub arms : List (Arm Expr)
-  pub last : Expr
-  pub is : out-Expr x.node ≡ Expr-F.Cond (record { test = head.node; question = question; value = given; colon = colon } ∷ arms) last
-  pub given_stands : stands ASSIGN (expr given) ≡ true
-  pub each : list_all arm_stands arms ≡ true
-  pub last_stands : stands ASSIGN (expr last) ≡ true
-  pub other : (expr last).rank ≡ COND → ⊥
-  pub behind : more ≡ mark pieces kind.Question question (expr_line given (mark pieces kind.Colon colon (each_of arm_line arms (expr_line last rest))))
-
--- what is said of a call that reads on behind a test, from m to n: with it the arm is the answer
-pub record ReadsArm (room : ℕ) (test : Value) (m n : Place) (result : Result (Tall (Arm Expr)) TokenFault) : Type 0 where
-  pub found : IfOk result (λ x. ((p : Place) → Read p (value_line test) m → Read p (arm_line x.node) n) × (arm_stands x.node ≡ true) × (x.height ≡ arm_height x.node))
-  pub only : (question : Token) (given : Expr) (colon : Token) (rest : List Piece) → stands ASSIGN (expr given) ≡ true → (expr given).height < room
-      → Reads m (mark pieces kind.Question question (expr_line given (mark pieces kind.Colon colon rest)))
-      → Gives result (tall_arm (record { test = test.node; question = question; value = given; colon = colon })) (Reads n rest)
-  pub moves : Moves m n result
-  pub shorter : IfOk result (λ x. length n.left < length m.left)
-
 -- ARGUMENTS AND TEMPLATES
 
 abbrev pub argument_stands : Element Expr → Bool
 argument_stands x = stands ASSIGN (expr x.value)
 
-pub record ArgumentsAt (room : ℕ) (x : Tall (Bracket Expr)) : Type 0 where
-  pub each : all_within argument_stands x.node ≡ true
-  pub height : x.height ≡ bracket_row unmarked higher x.node 0
+-- each item in brackets is as is asked, and none is taller than the room
+pub record BracketAt {Y : Type 0} (stands : Element Y → Bool) (tall : Y → ℕ) (room : ℕ) (x : Tall (Bracket Y)) : Type 0 where
+  pub each : all_within stands x.node ≡ true
+  pub height : x.height ≡ bracket_row unmarked (λ (y : Y) h. max (tall y) h) x.node 0
   pub fits : x.height ≤ room
+
+abbrev pub ArgumentsAt : ℕ → Tall (Bracket Expr) → Type 0
+ArgumentsAt = BracketAt argument_stands (λ (x : Expr). (expr x).height)
 
 abbrev pub ReadsArguments : ℕ → Place → Place → Result (Tall (Bracket Expr)) TokenFault → Type 0
 ReadsArguments room = ReadsAs (λ x. arguments_line x.node) (ArgumentsAt room) (Anywhere (Tall (Bracket Expr)))
@@ -257,14 +199,6 @@ NoArguments x rest = is_some x.node ≡ false → NoKind (is kind.LeftParen) res
 
 abbrev pub ReadsMaybeArguments : ℕ → Place → Place → Result (Tall (Option (Bracket Expr))) TokenFault → Type 0
 ReadsMaybeArguments room = ReadsMaybe (λ x. maybe arguments_line x.node) (MaybeArgumentsAt room) NoArguments
-
-pub record ElementAt (room : ℕ) (x : Tall (Element Expr)) : Type 0 where
-  pub stands : argument_stands x.node ≡ true
-  pub height : x.height ≡ (expr x.node.value).height
-  pub fits : x.height ≤ room
-
-abbrev pub ReadsElement : ℕ → Place → Place → Result (Tall (Element Expr)) TokenFault → Type 0
-ReadsElement room = ReadsAs (λ x. element_row pieces expr_line x.node) (ElementAt room) (λ x. Stops ASSIGN)
 
 abbrev pub substitution_stands : Listed Expr → Bool
 substitution_stands x = stands 0 (expr x.item)
@@ -328,10 +262,11 @@ ReadsTails calls room = ReadsMaybe (λ x. tails_line x.node) (TailsAt calls room
 
 -- FUNCTIONS
 
-pub record ParametersAt (room : ℕ) (x : Tall (Bracket Slot)) : Type 0 where
-  pub each : all_within (λ (e : Element Slot). parameter_fits (record { dots = e.dots; value = slot e.value })) x.node ≡ true
-  pub height : x.height ≡ bracket_row unmarked (λ (s : Slot) h. max (slot s).height h) x.node 0
-  pub fits : x.height ≤ room
+abbrev pub parameter_stands : Element Slot → Bool
+parameter_stands x = parameter_fits (record { dots = x.dots; value = slot x.value })
+
+abbrev pub ParametersAt : ℕ → Tall (Bracket Slot) → Type 0
+ParametersAt = BracketAt parameter_stands (λ (x : Slot). (slot x).height)
 
 pub record BlockAt (room : ℕ) (x : Tall (Block Stmt)) : Type 0 where
   pub height : x.height ≡ stmts_height x.node.body
@@ -343,14 +278,6 @@ pub record FunctionAt (room : ℕ) (x : Tall Function) : Type 0 where
 
 abbrev pub ReadsParameters : ℕ → Place → Place → Result (Tall (Bracket Slot)) TokenFault → Type 0
 ReadsParameters room = ReadsAs (λ x. parameters_line x.node) (ParametersAt room) (Anywhere (Tall (Bracket Slot)))
-
-pub record ParameterAt (room : ℕ) (x : Tall (Element Slot)) : Type 0 where
-  pub fits : parameter_fits (record { dots = x.node.dots; value = slot x.node.value }) ≡ true
-  pub height : x.height ≡ (slot x.node.value).height
-  pub low : x.height ≤ room
-
-abbrev pub ReadsParameter : ℕ → Place → Place → Result (Tall (Element Slot)) TokenFault → Type 0
-ReadsParameter room = ReadsAs (λ x. element_row pieces slot_line x.node) (ParameterAt room) (Anywhere (Tall (Element Slot)))
 
 abbrev pub ReadsBlock : ℕ → Place → Place → Result (Tall (Block Stmt)) TokenFault → Type 0
 ReadsBlock room = ReadsAs (λ x. block_line x.node) (BlockAt room) (Anywhere (Tall (Block Stmt)))

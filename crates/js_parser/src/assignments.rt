@@ -2,9 +2,11 @@
 ghost use Rattle.std.specs.Prelude.{◌≡◌, ◌≤◌, ◌<◌, IfOk, true};
 ghost use Rattle.js_tree.specs.Spelling.{expr};
 ghost use Rattle.js_tree.specs.Spelling.Nodes.{COND};
-ghost use Rattle.js_parser.specs.Nodes.{AssignsTo, Chooses, GoesOn, Knot, ReadsArm, ReadsExpr, ValueAt};
+ghost use Rattle.js_parser.specs.Behind.{AfterPrimary, AfterTest, AloneOr, AssignsTo, CallsNoEval, Chooses, GoesOn, ReadsArm};
+ghost use Rattle.js_parser.specs.Nodes.{Knot, ReadsExpr, ValueAt};
 
 use crate::grammar::Grammar;
+use crate::kinds::are_same;
 use crate::marks::{mark, next_strength};
 use crate::patterns::pattern_of;
 use crate::tall::{Tall, Value, higher};
@@ -24,7 +26,40 @@ impl<
         requires some { 0 < self.now.room }
         ensures reads { ReadsExpr 1 self.now.room reader.old reader.new result }
     {
+        if are_same(TokenKind::LeftParen, reader.kind()) {
+            let first = self.parenthesized(reader)?;
+            return self.behind_primary(reader, first);
+        }
         let first = self.binary(reader, 3)?;
+        self.behind_test(reader, first)
+    }
+
+    // What begins with the primary, up to an assignment.
+    fn behind_primary(
+        &self,
+        reader: &mut TokenReader<'_>,
+        first: Value,
+    ) -> Result<Value, TokenFault>
+        requires knot { Knot E.Fn S.Fn self.now }
+        requires some { 0 < self.now.room }
+        requires first { ValueAt 18 self.now.room first }
+        requires direct { CallsNoEval first reader.old }
+        ensures reads { GoesOn (AfterPrimary self.now.room) 1 self.now.room first reader.old reader.new result }
+    {
+        let chain = self.chain_behind(reader, first)?;
+        let operand = self.postfix_behind(reader, chain)?;
+        let power = self.power_behind(reader, operand)?;
+        let test = self.binary_behind(reader, power, 3)?;
+        self.behind_test(reader, test)
+    }
+
+    // A choice whose first test is given, or what is assigned to it; else the expression alone.
+    fn behind_test(&self, reader: &mut TokenReader<'_>, first: Value) -> Result<Value, TokenFault>
+        requires knot { Knot E.Fn S.Fn self.now }
+        requires some { 0 < self.now.room }
+        requires first { ValueAt 3 self.now.room first }
+        ensures reads { GoesOn AfterTest 1 self.now.room first reader.old reader.new result }
+    {
         if next_strength(reader) == 3 {
             return self.choice(reader, first);
         }
@@ -36,7 +71,7 @@ impl<
         requires knot { Knot E.Fn S.Fn self.now }
         requires some { 0 < self.now.room }
         requires first { ValueAt 3 self.now.room first }
-        ensures reads { GoesOn AssignsTo 1 self.now.room first reader.old reader.new result }
+        ensures reads { GoesOn (AloneOr AssignsTo) 1 self.now.room first reader.old reader.new result }
         ensures other { IfOk result (λ x. (expr x.node).rank ≡ COND → ⊥) }
     {
         if !first.is_target {

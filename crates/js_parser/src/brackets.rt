@@ -1,25 +1,143 @@
-//! Items by commas in brackets, as they are read.
-ghost use Rattle.std.specs.Prelude.{◌≡◌, ◌&&◌, is_some, not, OnOk};
+//! Items by commas in brackets.
+ghost use Rattle.std.specs.Prelude.{◌≡◌, ℕ, ◌&&◌, is_some, not, OnOk};
 ghost use Rattle.js_tree.specs.TokenKinds.{is};
-ghost use Rattle.js_parser.specs.Brackets.{Puts};
+ghost use Rattle.js_parser.specs.Brackets.{BeginsElse, Closes, ItemKind, Opens, Puts, ReadsEnclosed, ReadsInside, ReadsItem};
 
 use crate::kinds::are_same;
+use crate::marks::{mark, maybe_mark};
+use crate::tall::{Tall, higher};
+use js_tokens::{TokenFault, TokenReader};
 use js_tree::{Listed, Token, TokenKind};
 use sqlite_items::Items;
-use std::alloc::AllocError;
+use std::alloc::{AllocError, Global};
 
-/// Whether a further item stands before the token, where this is the item without a comma so far.
-pub fn goes_on<T>(last: &Option<T>, kind: TokenKind) -> bool
-    ensures { result ≡ (not (is_some last.now) && not (is TokenKind.RightParen kind)) }
+/// Items by commas, as they stand in brackets.
+#[derive(Drop)]
+pub struct Inside<I> {
+    /// The items with a comma behind them, from left to right.
+    pub front: Items<Listed<I>>,
+    /// The item without one, where the last has none.
+    pub last: Option<I>,
+}
+
+/// Items by commas and their brackets.
+#[derive(Drop)]
+pub struct Enclosed<I> {
+    /// The bracket that opens.
+    pub left: Token,
+    /// The items.
+    pub inside: Inside<I>,
+    /// The bracket that closes.
+    pub right: Token,
+}
+
+/// What reads the items of a list.
+pub trait ReadItem {
+    /// An item.
+    type Item: Drop;
+
+    ghost kind: { ItemKind Self.Item };
+
+    ghost room: { Self → ℕ };
+
+    ghost may_read: { Self → Type 0 };
+
+    /// An item.
+    fn item(&self, reader: &mut TokenReader<'_>) -> Result<Tall<Self::Item>, TokenFault>
+        requires { may_read self.now }
+        ensures { ReadsItem kind (room self.now) reader.old reader.new result };
+
+    /// Whether the item may stand last, with no comma behind it.
+    fn may_end(&self, item: &Self::Item) -> bool
+        ensures { result ≡ kind.ends item.now };
+}
+
+/// Items by commas in brackets.
+pub fn items_in_brackets<R: ReadItem>(
+    alloc: Global,
+    reader: &mut TokenReader<'_>,
+    by: &R,
+    begin: TokenKind,
+    close: TokenKind,
+) -> Result<Tall<Enclosed<R::Item>>, TokenFault>
+    requires may { R.may_read by.now }
+    requires opens { Opens begin }
+    requires closes { Closes close }
+    requires other { BeginsElse R.kind close }
+    ensures reads { ReadsEnclosed R.kind begin close (R.room by.now) reader.old reader.new result }
+{
+    let left = mark(alloc, reader, begin)?;
+    let Tall {
+        node: inside,
+        height,
+    } = items(alloc, reader, by, close)?;
+    let right = mark(alloc, reader, close)?;
+    Ok(Tall {
+        node: Enclosed {
+            left,
+            inside,
+            right,
+        },
+        height,
+    })
+}
+
+// Items by commas, up to the bracket that closes.
+fn items<R: ReadItem>(
+    alloc: Global,
+    reader: &mut TokenReader<'_>,
+    by: &R,
+    close: TokenKind,
+) -> Result<Tall<Inside<R::Item>>, TokenFault>
+    requires may { R.may_read by.now }
+    requires closes { Closes close }
+    requires other { BeginsElse R.kind close }
+    ensures reads { ReadsInside R.kind close (R.room by.now) reader.old reader.new result }
+{
+    let mut front = Items::new(alloc);
+    let mut last = None;
+    let mut height = 0;
+    'items: while goes_on(&last, close, reader.kind()) {
+        let Tall {
+            node: item,
+            height: tall,
+        } = by.item(reader)?;
+        let comma = maybe_mark(alloc, reader, TokenKind::Comma)?;
+        let ends = by.may_end(&item);
+        if lacks_comma(&comma, ends) {
+            return Err(reader.refusal());
+        }
+        height = higher(height, tall);
+        put(&mut front, &mut last, item, comma)?;
+    }
+    Ok(Tall {
+        node: Inside { front, last },
+        height,
+    })
+}
+
+// Whether a further item stands before the token, where this is the item without a comma so far.
+fn goes_on<T>(last: &Option<T>, close: TokenKind, kind: TokenKind) -> bool
+    ensures { result ≡ (not (is_some last.now) && not (is close kind)) }
 {
     match last {
         Some(_) => false,
-        None => !are_same(TokenKind::RightParen, kind),
+        None => !are_same(close, kind),
     }
 }
 
-/// Puts the item to the front with its comma, or takes it for the last.
-pub fn put<T: Drop>(
+// Whether no comma stands behind an item, where one must.
+fn lacks_comma(comma: &Option<Token>, may_end: bool) -> bool
+    ensures { result ≡ (not (is_some comma.now) && not may_end) }
+{
+    match comma {
+        Some(_) => false,
+        None => !may_end,
+    }
+}
+
+// Puts the item to the front with its comma, or takes it for the last.
+fn put<T: Drop>(
     front: &mut Items<Listed<T>>,
     last: &mut Option<T>,
     item: T,

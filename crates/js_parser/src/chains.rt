@@ -6,7 +6,8 @@ ghost use Rattle.js_tree.specs.Spelling.Nodes.{MADE, NEW, is_named};
 ghost use Rattle.js_tree.specs.TokenKinds.{is};
 ghost use Rattle.js_tree.specs.declared.token_kind.TokenKind.TheVariants as kinds;
 ghost use Rattle.js_tokens.specs.Ahead.{IsNextKind};
-ghost use Rattle.js_parser.specs.Nodes.{Knot, ReadsExpr, ReadsMaybeArguments};
+ghost use Rattle.js_parser.specs.Behind.{AloneOr, CallsNoEval, GoesOn, TakesTails};
+ghost use Rattle.js_parser.specs.Nodes.{Knot, ReadsExpr, ReadsMaybeArguments, ValueAt};
 
 use crate::grammar::Grammar;
 use crate::kinds::are_same;
@@ -52,11 +53,26 @@ impl<
     {
         let refusal = reader.refusal();
         let head = self.head(reader)?;
-        if head.rank < 19 {
-            return Ok(head);
-        }
         if calls_eval(head.node.get(), reader.kind()) {
             return Err(refusal);
+        }
+        self.chain_behind(reader, head)
+    }
+
+    /// A chain whose head is given, where tails follow; else the head alone.
+    pub fn chain_behind(
+        &self,
+        reader: &mut TokenReader<'_>,
+        head: Value,
+    ) -> Result<Value, TokenFault>
+        requires knot { Knot E.Fn S.Fn self.now }
+        requires some { 0 < self.now.room }
+        requires first { ValueAt 18 self.now.room head }
+        requires direct { CallsNoEval head reader.old }
+        ensures reads { GoesOn (AloneOr TakesTails) 17 self.now.room head reader.old reader.new result }
+    {
+        if head.rank < 19 {
+            return Ok(head);
         }
         let tails = self.tails(reader, true)?;
         if tails.node.is_empty() {

@@ -1,7 +1,8 @@
 //! Expressions from the weakest level on (ECMA-262, 12.6 to 12.16).
 ghost use Rattle.std.specs.Prelude.{◌≡◌, ◌≤◌, ◌<◌, ◌+◌, ◌-◌, true};
 ghost use Rattle.js_tree.specs.declared.tree.Expr.{out-Expr};
-ghost use Rattle.js_parser.specs.Nodes.{Knot, IsListRank, is_level, list_layer, GoesOn, Joins, ReadsExpr, ReadsOperand, ReadsOperands, ValueAt};
+ghost use Rattle.js_parser.specs.Behind.{AloneOr, GoesOn, Joins, JoinsFrom};
+ghost use Rattle.js_parser.specs.Nodes.{Knot, IsListRank, is_level, list_layer, ReadsExpr, ReadsOperand, ReadsOperands, ValueAt};
 
 use crate::grammar::Grammar;
 use crate::marks::next_strength;
@@ -52,13 +53,31 @@ impl<
         requires most { lowest ≤ 13 }
         ensures reads { ReadsExpr lowest self.now.room reader.old reader.new result }
     {
-        let mut first = self.power(reader)?;
+        let first = self.power(reader)?;
+        self.binary_behind(reader, first, lowest)
+    }
+
+    /// Lists of the ranks from the lowest on, one in another, whose first operand is given; else the operand alone.
+    pub fn binary_behind(
+        &self,
+        reader: &mut TokenReader<'_>,
+        first: Value,
+        lowest: u8,
+    ) -> Result<Value, TokenFault>
+        requires knot { Knot E.Fn S.Fn self.now }
+        requires some { 0 < self.now.room }
+        requires least { 3 ≤ lowest }
+        requires most { lowest ≤ 13 }
+        requires first { ValueAt 13 self.now.room first }
+        ensures reads { GoesOn (JoinsFrom self.now.room lowest) lowest self.now.room first reader.old reader.new result }
+    {
+        let mut whole = first;
         let mut rank = 13;
         'ranks: while lowest < rank {
             rank -= 1;
-            first = self.joined(reader, first, rank)?;
+            whole = self.joined(reader, whole, rank)?;
         }
-        Ok(first)
+        Ok(whole)
     }
 
     // A list of the rank whose first operand is given, where others follow; else the operand alone.
@@ -72,7 +91,7 @@ impl<
         requires some { 0 < self.now.room }
         requires rank { IsListRank rank }
         requires first { ValueAt (rank + 1) self.now.room first }
-        ensures reads { GoesOn (Joins rank) rank self.now.room first reader.old reader.new result }
+        ensures reads { GoesOn (AloneOr (Joins rank)) rank self.now.room first reader.old reader.new result }
     {
         if next_strength(reader) != rank + 1 {
             return Ok(first);

@@ -1,8 +1,9 @@
 //! Functions (ECMA-262, clause 14).
 ghost use Rattle.std.specs.Prelude.{◌≡◌, ◌≤◌, ◌<◌, ◌-◌};
-ghost use Rattle.js_parser.specs.Nodes.{Knot, ReadsFunction, ReadsParameters, ReadsParameter, ReadsBlock};
+ghost use Rattle.js_parser.specs.Brackets.{parameter_kind, ReadsItem};
+ghost use Rattle.js_parser.specs.Nodes.{Knot, ReadsFunction, ReadsParameters, ReadsBlock};
 
-use crate::brackets::{goes_on, put};
+use crate::brackets::{ReadItem, items_in_brackets};
 use crate::grammar::Grammar;
 use crate::marks::{mark, maybe_mark};
 use crate::tall::{Tall, Value, higher};
@@ -52,6 +53,31 @@ impl<
     }
 }
 
+// What reads parameters.
+#[derive(Drop)]
+struct ParameterReader {
+    alloc: Global,
+    room: u32,
+}
+
+impl ReadItem for ParameterReader {
+    type Item = Element<Slot>;
+
+    ghost kind = { parameter_kind };
+
+    ghost room = { λ by. by.room };
+
+    ghost may_read = { λ by. Unit {0} };
+
+    fn item(&self, reader: &mut TokenReader<'_>) -> Result<Tall<Element<Slot>>, TokenFault> {
+        parameter(self.alloc, reader, self.room)
+    }
+
+    fn may_end(&self, _item: &Element<Slot>) -> bool {
+        true
+    }
+}
+
 // Parameters in round brackets.
 fn parameters(
     alloc: Global,
@@ -60,26 +86,20 @@ fn parameters(
 ) -> Result<Tall<Bracket<Slot>>, TokenFault>
     ensures reads { ReadsParameters room reader.old reader.new result }
 {
-    let open = mark(alloc, reader, TokenKind::LeftParen)?;
-    let mut front = Items::new(alloc);
-    let mut last = None;
-    let mut height = 0;
-    'parameters: while goes_on(&last, reader.kind()) {
-        let Tall {
-            node: item,
-            height: tall,
-        } = parameter(alloc, reader, room)?;
-        let comma = maybe_mark(alloc, reader, TokenKind::Comma)?;
-        height = higher(height, tall);
-        put(&mut front, &mut last, item, comma)?;
-    }
-    let close = mark(alloc, reader, TokenKind::RightParen)?;
+    let by = ParameterReader { alloc, room };
+    let Tall { node: all, height } = items_in_brackets(
+        alloc,
+        reader,
+        &by,
+        TokenKind::LeftParen,
+        TokenKind::RightParen,
+    )?;
     Ok(Tall {
         node: Bracket {
-            open,
-            front,
-            last,
-            close,
+            open: all.left,
+            front: all.inside.front,
+            last: all.inside.last,
+            close: all.right,
         },
         height,
     })
@@ -91,7 +111,7 @@ fn parameter(
     reader: &mut TokenReader<'_>,
     room: u32,
 ) -> Result<Tall<Element<Slot>>, TokenFault>
-    ensures reads { ReadsParameter room reader.old reader.new result }
+    ensures reads { ReadsItem parameter_kind room reader.old reader.new result }
 {
     if room == 0 {
         return Err(reader.refusal());

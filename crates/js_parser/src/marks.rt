@@ -1,5 +1,5 @@
 //! Tokens of one kind, and with which strength the next token binds.
-ghost use Rattle.std.specs.Prelude.{◌≡◌, ◌<◌, Option, IfOk, OnErr, length, true, false};
+ghost use Rattle.std.specs.Prelude.{◌≡◌, ◌<◌, Option, is_some, IfOk, OnErr, length, true, false};
 ghost use Rattle.js_tree.specs.declared.token.Token.{Token};
 ghost use Rattle.js_tree.specs.Lexical.{Next};
 ghost use Rattle.js_tree.specs.Pieces.{one, kind as kind_of};
@@ -54,6 +54,7 @@ pub fn maybe_mark(
     requires plain { reads goals.Operator kind ≡ true }
     requires some { is TokenKind.End kind ≡ false }
     ensures reads { ReadsMaybe (may_mark pieces kind) (Any (Option Token)) (NoMark kind) reader.old reader.new result }
+    ensures fewer { IfOk result (λ o. is_some o ≡ true → length reader.new.left < length reader.old.left) }
 {
     if !are_same(kind, reader.kind()) {
         return Ok(None);

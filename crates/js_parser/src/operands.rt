@@ -3,7 +3,8 @@ ghost use Rattle.std.specs.Prelude.{◌≡◌, ◌≤◌, ◌<◌, ◌||◌, not
 ghost use Rattle.js_tree.specs.Operators as operators;
 ghost use Rattle.js_tree.specs.Spelling.Nodes.{UNARY, UPDATE};
 ghost use Rattle.js_parser.specs.Following.{Leads};
-ghost use Rattle.js_parser.specs.Nodes.{Knot, ReadsExpr};
+ghost use Rattle.js_parser.specs.Behind.{AloneOr, GoesOn, Raises, UpdatesTarget};
+ghost use Rattle.js_parser.specs.Nodes.{Knot, ReadsExpr, ValueAt};
 
 use crate::grammar::Grammar;
 use crate::kinds::{is_unary, is_update};
@@ -26,6 +27,20 @@ impl<
         ensures reads { ReadsExpr 13 self.now.room reader.old reader.new result }
     {
         let base = self.unary(reader)?;
+        self.power_behind(reader, base)
+    }
+
+    /// A power whose base is given, where `**` follows; else the base alone.
+    pub fn power_behind(
+        &self,
+        reader: &mut TokenReader<'_>,
+        base: Value,
+    ) -> Result<Value, TokenFault>
+        requires knot { Knot E.Fn S.Fn self.now }
+        requires some { 0 < self.now.room }
+        requires first { ValueAt 14 self.now.room base }
+        ensures reads { GoesOn (AloneOr Raises) 13 self.now.room base reader.old reader.new result }
+    {
         if base.rank < 15 {
             return Ok(base);
         }
@@ -93,6 +108,18 @@ impl<
         ensures reads { ReadsExpr 16 self.now.room reader.old reader.new result }
     {
         let first = self.chain(reader)?;
+        self.postfix_behind(reader, first)
+    }
+
+    /// The expression with `++` or `--` on its line, where it is a target and one follows; else the expression alone.
+    pub fn postfix_behind(
+        &self,
+        reader: &mut TokenReader<'_>,
+        first: Value,
+    ) -> Result<Value, TokenFault>
+        requires first { ValueAt 17 self.now.room first }
+        ensures reads { GoesOn (AloneOr UpdatesTarget) 16 self.now.room first reader.old reader.new result }
+    {
         if !first.is_target {
             return Ok(first);
         }

@@ -85,8 +85,8 @@ impl<
         )
     }
 
-    // An expression in round brackets.
-    fn parenthesized(&self, reader: &mut TokenReader<'_>) -> Result<Value, TokenFault>
+    /// An expression in round brackets.
+    pub fn parenthesized(&self, reader: &mut TokenReader<'_>) -> Result<Value, TokenFault>
         requires knot { Knot E.Fn S.Fn self.now }
         requires some { 0 < self.now.room }
         requires told { LeadsTo sorts.Paren reader.old }

@@ -12,10 +12,11 @@ ghost use Rattle.js_tree.specs.Spelling.Nodes.{is_named};
 ghost use Rattle.js_tree.specs.TokenKinds.{is};
 ghost use Rattle.js_tokens.specs.Ahead.{IsNextKind};
 ghost use Rattle.js_tokens.specs.Pieces.{OnlyRead, Any, Anywhere, Moves};
+ghost use Rattle.js_parser.specs.Brackets.{argument_kind, ReadsItem};
 ghost use Rattle.js_parser.specs.Following.{is_part};
-ghost use Rattle.js_parser.specs.Nodes.{Knot, names_eval, CallsHere, ReadsSubstitutions, ReadsArguments, ReadsTemplate, ReadsTail, ReadsTails, ReadsElement};
+ghost use Rattle.js_parser.specs.Nodes.{Knot, names_eval, CallsHere, ReadsSubstitutions, ReadsArguments, ReadsTemplate, ReadsTail, ReadsTails};
 
-use crate::brackets::{goes_on, put};
+use crate::brackets::{ReadItem, items_in_brackets};
 use crate::grammar::Grammar;
 use crate::kinds::{are_same, begins_tail};
 use crate::marks::{mark, maybe_mark};
@@ -39,6 +40,34 @@ fn is_eval_name(head: &Expr) -> bool
     match head {
         Expr::Name(name) => name.text.as_str() == "eval",
         _ => false,
+    }
+}
+
+// What reads arguments.
+#[derive(Drop)]
+struct ArgumentReader<'g, E, S> {
+    rules: &'g Grammar<E, S>,
+}
+
+impl<
+    'g,
+    E: Fn(Global, &mut TokenReader<'_>, u32, u8) -> Result<Value, TokenFault>,
+    S: Fn(Global, &mut TokenReader<'_>, u32) -> Result<Tall<Items<Stmt>>, TokenFault>,
+> ReadItem for ArgumentReader<'g, E, S> {
+    type Item = Element<Boxed<Expr>>;
+
+    ghost kind = { argument_kind };
+
+    ghost room = { λ by. by.rules.now.room - 1 };
+
+    ghost may_read = { λ by. Knot E.Fn S.Fn by.rules.now × (0 < by.rules.now.room) };
+
+    fn item(&self, reader: &mut TokenReader<'_>) -> Result<Tall<Element<Boxed<Expr>>>, TokenFault> {
+        self.rules.argument(reader)
+    }
+
+    fn may_end(&self, _item: &Element<Boxed<Expr>>) -> bool {
+        true
     }
 }
 
@@ -137,26 +166,20 @@ impl<
         requires some { 0 < self.now.room }
         ensures reads { ReadsArguments (self.now.room - 1) reader.old reader.new result }
     {
-        let open = mark(self.alloc, reader, TokenKind::LeftParen)?;
-        let mut front = Items::new(self.alloc);
-        let mut last = None;
-        let mut height = 0;
-        'arguments: while goes_on(&last, reader.kind()) {
-            let Tall {
-                node: item,
-                height: tall,
-            } = self.argument(reader)?;
-            let comma = maybe_mark(self.alloc, reader, TokenKind::Comma)?;
-            height = higher(height, tall);
-            put(&mut front, &mut last, item, comma)?;
-        }
-        let close = mark(self.alloc, reader, TokenKind::RightParen)?;
+        let by = ArgumentReader { rules: self };
+        let Tall { node: all, height } = items_in_brackets(
+            self.alloc,
+            reader,
+            &by,
+            TokenKind::LeftParen,
+            TokenKind::RightParen,
+        )?;
         Ok(Tall {
             node: Bracket {
-                open,
-                front,
-                last,
-                close,
+                open: all.left,
+                front: all.inside.front,
+                last: all.inside.last,
+                close: all.right,
             },
             height,
         })
@@ -169,7 +192,7 @@ impl<
     ) -> Result<Tall<Element<Boxed<Expr>>>, TokenFault>
         requires knot { Knot E.Fn S.Fn self.now }
         requires some { 0 < self.now.room }
-        ensures reads { ReadsElement (self.now.room - 1) reader.old reader.new result }
+        ensures reads { ReadsItem argument_kind (self.now.room - 1) reader.old reader.new result }
     {
         let dots = maybe_mark(self.alloc, reader, TokenKind::Dots)?;
         let value = self.inner(reader, 1)?;

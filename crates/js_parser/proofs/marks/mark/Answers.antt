@@ -1,5 +1,4 @@
-use Rattle.std.proofs.Common.{sym, ◌∙◌, true, false}
-use Rattle.js_tree.specs.Pieces.{kind}
+use Rattle.std.proofs.Common.{sym, ◌∙◌}
 use Rattle.js_tree.specs.TokenKinds.{is}
 use Rattle.js_parser.proofs.TokenLemmas.{taken_ok, only_plain, not_told}
 use Rattle.js_parser.proofs.marks.mark.Goals as goal

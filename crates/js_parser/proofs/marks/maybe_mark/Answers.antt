@@ -1,9 +1,10 @@
-use Rattle.std.proofs.Common.{Option, Some, true, false, sym, ap, ◌∙◌, subst, arith}
+use Rattle.std.proofs.Common.{Option, Some, sym, ap, ◌∙◌, subst, arith, true≢false}
 use Rattle.js_tree.specs.Spelling.Nodes.{pieces}
 use Rattle.js_tree.specs.Spelling.Rows.{may_mark}
 use Rattle.js_tree.specs.declared.token.Token.{Token}
 use Rattle.js_tokens.specs.Pieces.{Reads}
 use Rattle.js_parser.proofs.BeginLemmas.{mark_none, mark_some, with_mark}
+use Rattle.js_parser.proofs.LeadLemmas.{nothing_of}
 use Rattle.js_parser.proofs.PlaceLemmas.{passes_none}
 use Rattle.js_parser.proofs.ReadLemmas.{want, failed_maybe}
 use Rattle.js_parser.proofs.marks.maybe_mark.Goals as goal
@@ -18,6 +19,7 @@ returns-then-not-are_same c = record {
     moves = passes_none _;
     shorter = omega arith;
   };
+  fewer = λ some. absurd (true≢false (sym some));
 }
 
 pub returns-in_err-token : goal.returns-in_err-token
@@ -26,6 +28,7 @@ returns-in_err-token c = record {
       (λ o rest r any s.
       let v = mark_some c.args.kind c.requires.plain c.requires.some _ _ c.kind.ensures (sym c.are_same.ensures ∙ c.if-not-are_same.false) o rest s r in
       want _ _ _ (c.in_err-token.ensures.only v.0 rest v.2 tt tt)) c.from_residual.ensures.1;
+  fewer = nothing_of _ _ _ c.from_residual.ensures.1;
 }
 
 pub returns : goal.returns
@@ -39,4 +42,5 @@ returns c = record {
     moves = c.in_ok-token.ensures.moves;
     shorter = omega (arith, c.in_ok-token.ensures.shorter);
   };
+  fewer = λ some. c.in_ok-token.ensures.shorter;
 }

@@ -1,4 +1,4 @@
-use Rattle.std.proofs.Common.{◌-◌, ◌&&◌, Bool, max, ap, ◌∙◌, arith}
+use Rattle.std.proofs.Common.{◌&&◌, Bool, max, ap, ◌∙◌, arith}
 use Rattle.js_tree.specs.Spelling.{expr}
 use Rattle.js_tree.specs.Spelling.Nodes.{ASSIGN, pieces, stands}
 use Rattle.js_tree.specs.Spelling.Rows.{mark}

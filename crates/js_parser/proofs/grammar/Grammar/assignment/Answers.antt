@@ -1,28 +1,42 @@
-use Rattle.std.proofs.Common.{◌-◌, subst}
-use Rattle.js_parser.proofs.ChoiceLemmas.{AfterTest, assign_view, to_assigned, to_choice}
-use Rattle.js_parser.proofs.LeadLemmas.{first_fails, read_on}
-use Rattle.js_parser.proofs.PlaceLemmas.{passes_none}
-use Rattle.js_parser.proofs.ReadLemmas.{failed}
-use Rattle.js_parser.specs.Following.{IsStrength}
-use Rattle.js_parser.specs.Nodes.{AssignsTo, Chooses}
+use Rattle.std.proofs.Common.{sym, ap, ◌∙◌}
+use Rattle.js_tree.specs.Operators.{is_unary}
+use Rattle.js_tree.specs.declared.token_kind.TokenKind.TheVariants as kinds
+use Rattle.js_tree.proofs.KindLemmas.{is_same}
+use Rattle.js_parser.proofs.ChoiceLemmas.{assign_view}
+use Rattle.js_parser.proofs.LeadLemmas.{first_failed, followed}
+use Rattle.js_parser.proofs.PrimaryLemmas.{paren_calls, primary_view}
+use Rattle.js_parser.specs.Following.{primary_of}
 use Rattle.js_parser.proofs.grammar.Grammar.assignment.Goals as goal
 
-pub returns-in_err-first : goal.returns-in_err-first
-returns-in_err-first g c = record {
-  reads = failed _ _ _ _ _ _ _ _ (passes_none _) c.in_err-first.ensures.reads.moves
-      (λ x rest r at s. first_fails _ _ _ x rest (assign_view _ _ x rest r at s) _ _ c.in_err-first.ensures.reads) c.from_residual.ensures.1;
+pub parenthesized-requires : goal.parenthesized-requires
+parenthesized-requires g c = record {
+  knot = c.requires.knot;
+  some = c.requires.some;
+  told = (_, c.kind.ensures, ap primary_of (is_same kinds.LeftParen _ (sym c.are_same.ensures ∙ c.if-are_same.true)));
 }
 
-pub returns-then-next_strength-eq3 : goal.returns-then-next_strength-eq3
-returns-then-next_strength-eq3 g c =
-    let strength : IsStrength c.binary.new.reader 3 = subst (IsStrength c.binary.new.reader) c.if-next_strength-eq3.true c.next_strength.ensures in
+pub returns-in_err-first : goal.returns-in_err-first
+returns-in_err-first g c =
+    let paren = is_same kinds.LeftParen c.kind.result (sym c.are_same.ensures ∙ c.if-are_same.true) in
+    record { reads = first_failed 18 1 _ _ (primary_view _ _ _ c.kind.ensures (ap is_unary paren)) _ _ _ _ c.in_err-first.ensures.reads c.from_residual.ensures.1 }
+
+pub behind_primary-requires : goal.behind_primary-requires
+behind_primary-requires g c =
+    let paren = is_same kinds.LeftParen c.kind.result (sym c.are_same.ensures ∙ c.if-are_same.true) in
     record {
-      reads = read_on {B = AfterTest} {After = Chooses} 3 1 _ _ _ _ _ _ c.in_ok-first.ensures.reads c.choice.ensures.reads (λ x rest r at s. assign_view _ _ x rest r at s)
-          (λ x behind rest a at s r. to_choice _ strength _ x behind rest a s r);
+      knot = c.requires.knot;
+      some = c.requires.some;
+      first = c.in_ok-first.ensures.reads.found.1;
+      direct = paren_calls _ _ _ _ (_, c.kind.ensures, ap primary_of paren) c.in_ok-first.ensures.reads;
     }
 
+pub returns-then-are_same : goal.returns-then-are_same
+returns-then-are_same g c =
+    let paren = is_same kinds.LeftParen c.kind.result (sym c.are_same.ensures ∙ c.if-are_same.true) in
+    record { reads = followed 18 1 _ _ (primary_view _ _ _ c.kind.ensures (ap is_unary paren)) _ _ _ _ c.in_ok-first.ensures.reads c.behind_primary.ensures.reads }
+
+pub returns-in_err-first-2 : goal.returns-in_err-first-2
+returns-in_err-first-2 g c = record { reads = first_failed 3 1 _ _ (assign_view _ _) _ _ _ _ c.in_err-first-2.ensures.reads c.from_residual-in_err-first-2.ensures.1 }
+
 pub returns : goal.returns
-returns g c = record {
-  reads = read_on {B = AfterTest} {After = AssignsTo} 3 1 _ _ _ _ _ _ c.in_ok-first.ensures.reads c.assigned.ensures.reads (λ x rest r at s. assign_view _ _ x rest r at s)
-      (λ x behind rest a at s r. to_assigned _ _ c.next_strength.ensures c.if-next_strength-eq3.false _ x behind rest a r);
-}
+returns g c = record { reads = followed 3 1 _ _ (assign_view _ _) _ _ _ _ c.in_ok-first-2.ensures.reads c.behind_test.ensures.reads }

@@ -1,4 +1,4 @@
-use Rattle.std.proofs.Common.{◌-◌, ℕ, refl, arith, List}
+use Rattle.std.proofs.Common.{ℕ, refl, arith, List}
 use Rattle.js_tree.specs.Pieces.{Onto, one}
 use Rattle.js_tree.specs.Spelling.{stmts}
 use Rattle.js_tree.specs.TokenKinds.{is}

@@ -1,4 +1,4 @@
-use Rattle.std.proofs.Common.{◌≡◌, ◌+◌, ◌-◌, [], ◌∷◌, ◌++◌, max, sym, ap, ◌∙◌, subst, arith, List, true≢false}
+use Rattle.std.proofs.Common.{◌≡◌, [], ◌∷◌, ◌++◌, max, sym, ap, ◌∙◌, subst, arith, List, true≢false}
 use Rattle.js_tree.specs.Spelling.{tallest_of}
 use Rattle.js_tree.specs.Spelling.Nodes.{is_empty}
 use Rattle.js_tree.specs.declared.lists.Arm.{Arm}
@@ -13,7 +13,7 @@ use Rattle.js_parser.proofs.OperandLemmas.{some_pushed}
 use Rattle.js_parser.proofs.PlaceLemmas.{passes_on}
 use Rattle.js_parser.proofs.ReadLemmas.{want}
 use Rattle.js_parser.specs.Following.{IsStrength}
-use Rattle.js_parser.specs.Nodes.{Chooses, arm_height}
+use Rattle.js_parser.specs.Behind.{Chooses, arm_height}
 use Rattle.js_parser.specs.declared.tall.Value.{Value}
 use Rattle.js_parser.proofs.grammar.Grammar.choice.Goals as goal
 

@@ -3,7 +3,7 @@ use Rattle.js_tree.specs.Spelling.{tallest_of}
 use Rattle.js_tree.specs.Spelling.Nodes.{is_empty}
 use Rattle.js_parser.proofs.ChoiceLemmas.{Chosen}
 use Rattle.js_parser.specs.Following.{IsStrength}
-use Rattle.js_parser.specs.Nodes.{arm_height}
+use Rattle.js_parser.specs.Behind.{arm_height}
 use Rattle.js_parser.proofs.grammar.Grammar.choice.Given as goal
 
 abbrev pub invariant-arms : goal.invariant-arms

@@ -1,4 +1,4 @@
-use Rattle.std.proofs.Common.{◌+◌, ◌-◌, ℕ, true, false, true≢false, is_some, refl, subst, sym, ap, ◌∙◌, arith, List}
+use Rattle.std.proofs.Common.{◌+◌, ◌-◌, ℕ, true≢false, is_some, refl, subst, sym, ap, ◌∙◌, arith, List}
 use Rattle.js_tree.specs.Pieces.{Piece}
 use Rattle.js_tree.specs.Spelling as spelling
 use Rattle.js_tree.specs.declared.tree.Function.{Function}

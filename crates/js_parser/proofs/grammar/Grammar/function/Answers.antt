@@ -1,4 +1,4 @@
-use Rattle.std.proofs.Common.{◌≡◌, ◌-◌, ℕ, refl, sym, ap, ◌∙◌, arith, List}
+use Rattle.std.proofs.Common.{◌≡◌, ℕ, refl, sym, ap, ◌∙◌, arith, List}
 use Rattle.js_tree.specs.Pieces.{Piece, Onto}
 use Rattle.js_tree.specs.Spelling.{stmts_height}
 use Rattle.js_tree.specs.Spelling.Nodes.{pieces}

@@ -5,7 +5,7 @@ use Rattle.js_tree.specs.Spelling.{expr, function}
 use Rattle.js_tree.specs.Spelling.Nodes.{Seen, NEW}
 use Rattle.js_tree.specs.declared.tree.Expr.TheOpen.{Expr-F}
 use Rattle.js_tree.specs.declared.tree.Expr.TheVariants.{rolls-Fun}
-use Rattle.js_tree.specs.declared.tree.Expr.{Expr, out-Expr, roll-Expr}
+use Rattle.js_tree.specs.declared.tree.Expr.{out-Expr, roll-Expr}
 use Rattle.js_tree.specs.declared.tree.Function.{Function}
 use Rattle.js_tree.proofs.SpellingLemmas.{at_expr}
 use Rattle.js_tokens.specs.Pieces.{Reads}

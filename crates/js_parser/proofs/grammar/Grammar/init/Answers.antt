@@ -1,4 +1,4 @@
-use Rattle.std.proofs.Common.{◌≡◌, ◌-◌, ℕ, refl, sym, ap, ◌∙◌, subst, arith, List, Option, Some}
+use Rattle.std.proofs.Common.{◌≡◌, ℕ, refl, sym, ap, ◌∙◌, subst, arith, List, Option, Some}
 use Rattle.js_tree.specs.Pieces.{Piece}
 use Rattle.js_tree.specs.Spelling.{expr}
 use Rattle.js_tree.specs.Spelling.Nodes.{ASSIGN}

@@ -1,4 +1,4 @@
-use Rattle.std.proofs.Common.{◌≡◌, ◌-◌, ◌||◌, Bool, true, false, not, refl, sym, ap, ◌∙◌, arith, if◌then◌else◌}
+use Rattle.std.proofs.Common.{◌≡◌, ◌||◌, Bool, not, refl, sym, ap, ◌∙◌, arith, if◌then◌else◌}
 use Rattle.js_tree.specs.Operators.{is_unary, is_update}
 use Rattle.js_tree.specs.Pieces.{kind as kind_of}
 use Rattle.js_tree.specs.Spelling.{expr}

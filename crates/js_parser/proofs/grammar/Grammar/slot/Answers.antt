@@ -1,4 +1,4 @@
-use Rattle.std.proofs.Common.{◌≡◌, ◌-◌, ℕ, refl, sym, ap, ◌∙◌, arith, List, Option}
+use Rattle.std.proofs.Common.{◌≡◌, ℕ, refl, sym, ap, ◌∙◌, arith, List, Option}
 use Rattle.js_tree.specs.Pieces.{Piece}
 use Rattle.js_tree.specs.declared.lists.Init.{Init}
 use Rattle.js_tree.specs.declared.token_kind.TokenKind.TheVariants as kinds

@@ -1,4 +1,4 @@
-use Rattle.std.proofs.Common.{◌-◌, sym, ◌∙◌}
+use Rattle.std.proofs.Common.{sym, ◌∙◌}
 use Rattle.js_parser.proofs.ReadLemmas.{refused_here}
 use Rattle.js_parser.proofs.StmtLemmas.{stmt_view}
 use Rattle.js_parser.specs.declared.kinds.Statement.TheVariants as sorts

@@ -1,4 +1,4 @@
-use Rattle.std.proofs.Common.{◌-◌, max, sym, ap, ◌∙◌, subst, arith, List}
+use Rattle.std.proofs.Common.{max, sym, ap, ◌∙◌, subst, arith, List}
 use Rattle.js_tree.specs.Spelling.{stmt, stmts_height}
 use Rattle.js_tree.specs.declared.tree.Stmt.{Stmt}
 use Rattle.js_tree.proofs.SpellingLemmas.{stmt_height_some}
