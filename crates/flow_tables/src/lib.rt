@@ -5,6 +5,8 @@
 #![tactic(auto)]
 
 #[cfg(test)]
+mod arrays;
+#[cfg(test)]
 mod flows;
 #[cfg(test)]
 mod functions;
@@ -20,6 +22,8 @@ mod modules;
 mod names;
 #[cfg(test)]
 mod notes;
+#[cfg(test)]
+mod patterns;
 #[cfg(test)]
 mod rows;
 #[cfg(test)]

@@ -62,4 +62,33 @@ arguments = 1;
     0 arguments 0
 (function arguments() { arguments; });
     10 local 0, 24 local 0
+
+# Names of patterns, parameters and arrows.
+var [a, , b] = c; a; b; c;
+    5 local 0, 10 local 1, 15 global, 18 local 0, 21 local 1, 24 global
+var {a, b: c, d: {e}, ...f} = g;
+    5 local 0, 11 local 1, 18 local 2, 25 local 3, 30 global
+var a; b = {a, c: a};
+    4 local 0, 7 global, 12 local 0, 18 local 0
+function f(a, [b, c], {d: e = a}, ...g) { a; e; g; d; }
+    9 local 0, 11 local 1, 15 local 2, 18 local 3, 26 local 4, 30 local 1, 37 local 5,
+    42 local 1, 45 local 4, 48 local 5, 51 global
+var x = (a, b) => a + x; a;
+    4 local 0, 9 local 1, 12 local 2, 18 local 1, 22 local 0, 25 global
+a => a; a;
+    0 local 0, 5 local 0, 8 global
+function f() { return () => arguments; }
+    9 local 0, 28 arguments 1
+() => arguments;
+    6 arguments 0
+(arguments) => arguments;
+    1 local 0, 15 local 0
+() => { var a; a; }; a;
+    12 local 0, 15 local 0, 21 global
+var {exports, a} = b; exports;
+    5 exports, 14 local 0, 22 exports
+(exports) => exports;
+    1 local 0, 13 local 0
+var {[a]: b} = c; b;
+    6 global, 10 local 0, 15 global, 18 local 0
 "#;
