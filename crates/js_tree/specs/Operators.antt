@@ -106,3 +106,16 @@ begins_plain _ nl = true
 abbrev pub begins_value : TokenKind → Bool → Bool
 begins_value kind.LeftBrace nl = false
 begins_value _ nl = true
+
+-- what declares variables (ECMA-262, 13.3)
+abbrev pub is_declarator : TokenKind → Bool
+is_declarator kind.Var = true
+is_declarator kind.Let = true
+is_declarator kind.Const = true
+is_declarator _ = false
+
+-- a way out of a statement, or to the next turn of a loop (ECMA-262, 13.8 and 13.9)
+abbrev pub is_jump : TokenKind → Bool
+is_jump kind.Break = true
+is_jump kind.Continue = true
+is_jump _ = false

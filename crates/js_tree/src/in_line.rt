@@ -1,16 +1,17 @@
 //! What stands in lists of the line of a node, in brackets, or may be missing.
-ghost use Rattle.std.specs.Prelude.{◌≡◌, [], ◌∷◌, List, OnOk};
+ghost use Rattle.std.specs.Prelude.{◌≡◌, [], ◌∷◌, List, OnOk, true};
 ghost use Rattle.js_tree.specs.Adds.{Adds};
 ghost use Rattle.js_tree.specs.Line.{AToken, LineItem as GhostItem, given_marks, in_brackets, item_of, items, tail_items};
-ghost use Rattle.js_tree.specs.Spelling.Rows.{arm_row, arrow_params_row, block_row, each_of, element_row, init_row, listed_row, maybe, template_row};
+ghost use Rattle.js_tree.specs.Spelling.Rows.{arm_row, arrow_params_row, block_row, case_row, each_of, element_row, enclosed_row, for_start_row, guarded_row, handler_row, init_row, left_row, listed_row, maybe, template_row};
 
 use crate::line::{LineItem, push_node, push_token};
 use crate::lists::{
-    Arm, ArrowParams, Block, Bracket, Element, Further, Init, Listed, Tail, Template,
+    Arm, ArrowParams, Block, Bracket, Case, Element, Enclosed, ForStart, Further, Guarded, Handler,
+    Init, Left, Listed, Tail, Template,
 };
 use crate::node::Node;
 use crate::token::Token;
-use crate::tree::{Expr, PatternProperty, Property, Slot, Stmt};
+use crate::tree::{Expr, Pattern, PatternProperty, Property, Slot, Stmt};
 use jam_base::OutOfMemory;
 use sqlite_items::Boxed;
 
@@ -70,6 +71,14 @@ impl<'t> InLine<'t> for Expr {
 
     fn push_items(&'t self, out: &mut Vec<LineItem<'t>>) -> Result<(), OutOfMemory> {
         push_node(Node::Expr(self), out)
+    }
+}
+
+impl<'t> InLine<'t> for Pattern {
+    ghost put = { items.pattern };
+
+    fn push_items(&'t self, out: &mut Vec<LineItem<'t>>) -> Result<(), OutOfMemory> {
+        push_node(Node::Pattern(self), out)
     }
 }
 
@@ -209,5 +218,75 @@ impl<'t, X: InLine<'t>> InLine<'t> for Block<X> {
         push_token(&self.begin, out)?;
         push_each(self.body.as_slice(), out)?;
         push_token(&self.end, out)
+    }
+}
+
+impl<'t, X: InLine<'t>> InLine<'t> for Enclosed<X> {
+    ghost put = { enclosed_row given_marks X.put };
+
+    fn push_items(&'t self, out: &mut Vec<LineItem<'t>>) -> Result<(), OutOfMemory> {
+        push_token(&self.open, out)?;
+        self.item.push_items(out)?;
+        push_token(&self.close, out)
+    }
+}
+
+impl<'t, X: InLine<'t>, Y: InLine<'t>> InLine<'t> for Guarded<X, Y> {
+    ghost put = { guarded_row given_marks (λ k. true) X.put Y.put };
+
+    fn push_items(&'t self, out: &mut Vec<LineItem<'t>>) -> Result<(), OutOfMemory> {
+        push_token(&self.word, out)?;
+        self.test.push_items(out)?;
+        self.body.push_items(out)
+    }
+}
+
+impl<'t, X: InLine<'t>, Y: InLine<'t>> InLine<'t> for ForStart<X, Y> {
+    ghost put = { for_start_row given_marks X.put Y.put };
+
+    fn push_items(&'t self, out: &mut Vec<LineItem<'t>>) -> Result<(), OutOfMemory> {
+        match self {
+            ForStart::Vars { word, first, rest } => {
+                push_token(word, out)?;
+                first.push_items(out)?;
+                push_each(rest.as_slice(), out)
+            }
+            ForStart::Value(value) => value.push_items(out),
+        }
+    }
+}
+
+impl<'t, X: InLine<'t>> InLine<'t> for Left<X> {
+    ghost put = { left_row given_marks X.put };
+
+    fn push_items(&'t self, out: &mut Vec<LineItem<'t>>) -> Result<(), OutOfMemory> {
+        match self {
+            Left::Vars { word, target } => {
+                push_token(word, out)?;
+                target.push_items(out)
+            }
+            Left::Target(target) => target.push_items(out),
+        }
+    }
+}
+
+impl<'t, X: InLine<'t>, Y: InLine<'t>> InLine<'t> for Case<X, Y> {
+    ghost put = { case_row given_marks X.put Y.put };
+
+    fn push_items(&'t self, out: &mut Vec<LineItem<'t>>) -> Result<(), OutOfMemory> {
+        push_token(&self.word, out)?;
+        self.test.push_items(out)?;
+        push_token(&self.colon, out)?;
+        push_each(self.body.as_slice(), out)
+    }
+}
+
+impl<'t, X: InLine<'t>, Y: InLine<'t>> InLine<'t> for Handler<X, Y> {
+    ghost put = { handler_row given_marks X.put Y.put };
+
+    fn push_items(&'t self, out: &mut Vec<LineItem<'t>>) -> Result<(), OutOfMemory> {
+        push_token(&self.word, out)?;
+        self.target.push_items(out)?;
+        self.body.push_items(out)
     }
 }

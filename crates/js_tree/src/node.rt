@@ -254,7 +254,7 @@ fn push_in_stmt<'t>(statement: &'t Stmt, out: &mut Vec<Node<'t>>) -> Result<(), 
         out.old.items out.new.items) }
 {
     match statement {
-        Stmt::Plain { value, semi: _ } => push(Node::Expr(value.get()), out),
+        Stmt::Block { block } => block.push_nodes(out),
         Stmt::Vars {
             word: _,
             first,
@@ -264,11 +264,107 @@ fn push_in_stmt<'t>(statement: &'t Stmt, out: &mut Vec<Node<'t>>) -> Result<(), 
             push(Node::Slot(first), out)?;
             push_each(rest.as_slice(), out)
         }
+        Stmt::Empty { semi: _ } => Ok(()),
+        Stmt::Plain { value, semi: _ } => push(Node::Expr(value.get()), out),
+        Stmt::If { first, rest, last } => {
+            first.push_nodes(out)?;
+            push_each(rest.as_slice(), out)?;
+            last.push_nodes(out)
+        }
+        Stmt::Do {
+            word: _,
+            body,
+            again: _,
+            test,
+            semi: _,
+        } => {
+            push(Node::Stmt(body.get()), out)?;
+            test.push_nodes(out)
+        }
+        Stmt::While { guarded } => guarded.push_nodes(out),
+        Stmt::For {
+            word: _,
+            open: _,
+            start,
+            first: _,
+            test,
+            second: _,
+            step,
+            close: _,
+            body,
+        } => {
+            start.push_nodes(out)?;
+            test.push_nodes(out)?;
+            step.push_nodes(out)?;
+            push(Node::Stmt(body.get()), out)
+        }
+        Stmt::ForIn {
+            word: _,
+            open: _,
+            left,
+            mark: _,
+            value,
+            close: _,
+            body,
+        } => {
+            left.push_nodes(out)?;
+            push(Node::Expr(value.get()), out)?;
+            push(Node::Stmt(body.get()), out)
+        }
+        Stmt::ForOf {
+            word: _,
+            open: _,
+            left,
+            mark: _,
+            value,
+            close: _,
+            body,
+        } => {
+            left.push_nodes(out)?;
+            push(Node::Expr(value.get()), out)?;
+            push(Node::Stmt(body.get()), out)
+        }
+        Stmt::Jump {
+            word: _,
+            label: _,
+            semi: _,
+        } => Ok(()),
         Stmt::Return {
             word: _,
             value,
             semi: _,
         } => value.push_nodes(out),
+        Stmt::Throw {
+            word: _,
+            value,
+            semi: _,
+        } => push(Node::Expr(value.get()), out),
+        Stmt::Switch {
+            word: _,
+            value,
+            begin: _,
+            cases,
+            end: _,
+        } => {
+            value.push_nodes(out)?;
+            push_each(cases.as_slice(), out)
+        }
+        Stmt::Try {
+            word: _,
+            body,
+            handler,
+            last,
+        } => {
+            push(Node::Stmt(body.get()), out)?;
+            handler.push_nodes(out)?;
+            last.push_nodes(out)
+        }
+        Stmt::Label {
+            name: _,
+            colon: _,
+            body,
+        } => push(Node::Stmt(body.get()), out),
+        Stmt::Debugger { word: _, semi: _ } => Ok(()),
         Stmt::Fun { function } => push(Node::Function(function.get()), out),
     }
 }

@@ -11,17 +11,18 @@ use Rattle.js_tree.specs.Pieces.{Piece, Tok, Must, Ahead, Onto}
 use Rattle.js_tree.specs.Spelling.Rows.{Marks, WriterOf, each_of, maybe, tail_row}
 
 -- with what an expression ends: an operand, `++` or `--` behind a target, the body of an arrow in braces, or what is declared
--- and given nothing
+-- and given nothing; or a statement without one, a word or a label
 pub data Ending : Type 0 where
   AfterOperand : Ending
   AfterUpdate : Ending
   AfterBlock : Ending
   AfterName : Ending
+  AfterWord : Ending
 
 -- what a node is to the nodes around it:
 -- its spelling;
 -- how tightly an expression or a function holds together (below); of a pattern, a slot and a property in a pattern, 1 where it
--- may be assigned to, 2 where it may be declared too;
+-- may be assigned to, 2 where it may be declared too; of a statement, 1 where it is a block, and 2 where it is a choice by tests;
 -- with what its last expression ends;
 -- that a node is as it must be whose own line doesn't say so, since its tokens may turn out to be those of another node;
 -- that it may be assigned to by every operator; of a slot, that it is given nothing; of a property in a pattern, that it isn't

@@ -5,9 +5,17 @@ use Rattle.js_tree.specs.declared.lists.ArrowParams.{ArrowParams}
 use Rattle.js_tree.specs.declared.lists.ArrowParams.TheVariants as shape
 use Rattle.js_tree.specs.declared.lists.Block.{Block}
 use Rattle.js_tree.specs.declared.lists.Bracket.{Bracket}
+use Rattle.js_tree.specs.declared.lists.Case.{Case}
 use Rattle.js_tree.specs.declared.lists.Element.{Element}
+use Rattle.js_tree.specs.declared.lists.Enclosed.{Enclosed}
+use Rattle.js_tree.specs.declared.lists.ForStart.{ForStart}
+use Rattle.js_tree.specs.declared.lists.ForStart.TheVariants as start
 use Rattle.js_tree.specs.declared.lists.Further.{Further}
+use Rattle.js_tree.specs.declared.lists.Guarded.{Guarded}
+use Rattle.js_tree.specs.declared.lists.Handler.{Handler}
 use Rattle.js_tree.specs.declared.lists.Init.{Init}
+use Rattle.js_tree.specs.declared.lists.Left.{Left}
+use Rattle.js_tree.specs.declared.lists.Left.TheVariants as left
 use Rattle.js_tree.specs.declared.lists.Listed.{Listed}
 use Rattle.js_tree.specs.declared.lists.Tail.{Tail}
 use Rattle.js_tree.specs.declared.lists.Tail.TheVariants as tail
@@ -15,7 +23,7 @@ use Rattle.js_tree.specs.declared.lists.Template.{Template}
 use Rattle.js_tree.specs.declared.token.Token.{Token}
 use Rattle.js_tree.specs.declared.token_kind.TokenKind.{TokenKind}
 use Rattle.js_tree.specs.declared.token_kind.TokenKind.TheVariants as kind
-use Rattle.js_tree.specs.Operators.{is_assignment, is_member_name}
+use Rattle.js_tree.specs.Operators.{is_assignment, is_declarator, is_member_name}
 use Rattle.js_tree.specs.TokenKinds.{is}
 
 -- how a token whose place takes these kinds, one that may be there, and a condition on the next token are put in front of what follows
@@ -133,3 +141,34 @@ init_row m put x rest = m.token is_assignment x.equals (put x.value rest)
 -- statements in braces
 abbrev pub block_row : {X R : Type 0} → Marks R → (X → R → R) → Block X → R → R
 block_row m put b rest = mark m kind.LeftBrace b.begin (each_of put b.body (mark m kind.RightBrace b.end rest))
+
+-- what stands in round brackets
+abbrev pub enclosed_row : {X R : Type 0} → Marks R → (X → R → R) → Enclosed X → R → R
+enclosed_row m put x rest = mark m kind.LeftParen x.«open» (put x.item (mark m kind.RightParen x.close rest))
+
+-- a word, a test and a statement (ECMA-262, 13.6 and 13.7.3)
+abbrev pub guarded_row : {X Y R : Type 0} → Marks R → (TokenKind → Bool) → (X → R → R) → (Y → R → R) → Guarded X Y → R → R
+guarded_row m word test body x rest = m.token word x.word (enclosed_row m test x.test (body x.body rest))
+
+-- what a loop with a step begins with (ECMA-262, 13.7.4)
+abbrev pub for_start_row : {X Y R : Type 0} → Marks R → (X → R → R) → (Y → R → R) → ForStart X Y → R → R
+for_start_row m value slot (start.Vars word first others) rest = m.token is_declarator word (slot first (each_of (further_row m slot (is kind.Comma)) others rest))
+for_start_row m value slot (start.Value x) rest = value x rest
+
+-- what a loop assigns to (ECMA-262, 13.7.5)
+abbrev pub left_row : {X R : Type 0} → Marks R → (X → R → R) → Left X → R → R
+left_row m put (left.Vars word target) rest = m.token is_declarator word (put target rest)
+left_row m put (left.Target target) rest = put target rest
+
+-- the word of a case, by its value
+abbrev pub case_word : {X : Type 0} → Option X → TokenKind → Bool
+case_word None = is kind.Default
+case_word (Some x) = is kind.Case
+
+-- `case` and a value, or `default`, `:`, and statements (ECMA-262, 13.12)
+abbrev pub case_row : {X Y R : Type 0} → Marks R → (X → R → R) → (Y → R → R) → Case X Y → R → R
+case_row m test body x rest = m.token (case_word x.test) x.word (maybe test x.test (mark m kind.Colon x.colon (each_of body x.body rest)))
+
+-- `catch`, what an exception is bound to, and a statement (ECMA-262, 13.15)
+abbrev pub handler_row : {X Y R : Type 0} → Marks R → (X → R → R) → (Y → R → R) → Handler X Y → R → R
+handler_row m target body x rest = mark m kind.Catch x.word (maybe (enclosed_row m target) x.target (body x.body rest))

@@ -1,40 +1,183 @@
 -- Statements (ECMA-262, clause 13): of what each is made up, and what is asked of it.
-use Rattle.std.specs.Prelude.{◌+◌, List, [], ◌∷◌, None, is_some, Bool, true, false, ◌&&◌, ◌||◌, not}
+use Rattle.std.specs.Prelude.{ℕ, suc, ◌+◌, ◌==◌, nat_le, max, List, [], ◌∷◌, codes, Option, Some, None, is_some, Bool, true, false, ◌&&◌, ◌||◌, not, if◌then◌else◌}
+use Rattle.std.specs.List.{list_all}
+use Rattle.std.specs.Str.{bytes_eq}
+use Rattle.js_tree.specs.declared.lists.Case.{Case}
+use Rattle.js_tree.specs.declared.lists.ForStart.{ForStart}
+use Rattle.js_tree.specs.declared.lists.ForStart.TheVariants as start
+use Rattle.js_tree.specs.declared.lists.Guarded.{Guarded}
+use Rattle.js_tree.specs.declared.lists.Handler.{Handler}
+use Rattle.js_tree.specs.declared.lists.Left.{Left}
+use Rattle.js_tree.specs.declared.lists.Left.TheVariants as left
+use Rattle.js_tree.specs.declared.token.Token.{Token}
 use Rattle.js_tree.specs.declared.token_kind.TokenKind.TheVariants as kind
 use Rattle.js_tree.specs.declared.tree.Expr.TheOpen.{Stmt-F}
 use Rattle.js_tree.specs.Folds.{StmtOf}
-use Rattle.js_tree.specs.Operators.{begins_plain, on_line}
+use Rattle.js_tree.specs.Operators.{begins_plain, is_declarator, is_jump, on_line}
+use Rattle.js_tree.specs.Pieces.{Ahead, Onto}
 use Rattle.js_tree.specs.TokenKinds.{is}
+use Rattle.js_tree.specs.Spelling.Ends.{may_end, no_else, no_semicolon}
 use Rattle.js_tree.specs.Spelling.Patterns.{DECLARED}
-use Rattle.js_tree.specs.Spelling.Rows.{Writer, mark, may_mark, each_of, maybe, further_row}
-use Rattle.js_tree.specs.Spelling.Nodes.{Seen, AfterOperand, stands, passes, all_further, musts, lines, highest_of, some_has}
+use Rattle.js_tree.specs.Spelling.Rows.{Writer, mark, may_mark, each_of, maybe, further_row, block_row, enclosed_row, guarded_row, for_start_row, left_row, case_row, handler_row}
+use Rattle.js_tree.specs.Spelling.Nodes.{Seen, Ending, AfterOperand, AfterWord, ASSIGN, stands, passes, all_further, last_ending, is_named, musts, lines, highest_of, some_has}
 
 -- SPELLING, one line for each kind
 
 abbrev pub stmt_row : {E F K P Q O S L R : Type 0} → Writer E F K P Q O S L R → Stmt-F E F K P Q O S L → R → R
-stmt_row w (Stmt-F.Plain value semi) rest = w.marks.ahead begins_plain (w.expr value (may_mark w.marks kind.Semicolon semi rest))
+stmt_row w (Stmt-F.«Stmt::Block» block) rest = block_row w.marks w.stmt block rest
 stmt_row w (Stmt-F.Vars word first others semi) rest =
-    mark w.marks kind.Var word (w.slot first (each_of (further_row w.marks w.slot (is kind.Comma)) others (may_mark w.marks kind.Semicolon semi rest)))
+    w.marks.token is_declarator word (w.slot first (each_of (further_row w.marks w.slot (is kind.Comma)) others (may_mark w.marks kind.Semicolon semi rest)))
+stmt_row w (Stmt-F.Empty semi) rest = mark w.marks kind.Semicolon semi rest
+stmt_row w (Stmt-F.Plain value semi) rest = w.marks.ahead begins_plain (w.expr value (may_mark w.marks kind.Semicolon semi rest))
+stmt_row w (Stmt-F.If first others last) rest =
+    guarded_row w.marks (is kind.If) w.expr w.stmt first
+    (each_of (further_row w.marks (guarded_row w.marks (is kind.If) w.expr w.stmt) (is kind.Else)) others (maybe (further_row w.marks w.stmt (is kind.Else)) last rest))
+stmt_row w (Stmt-F.Do word body again test semi) rest =
+    mark w.marks kind.Do word (w.stmt body (mark w.marks kind.While again (enclosed_row w.marks w.expr test (may_mark w.marks kind.Semicolon semi rest))))
+stmt_row w (Stmt-F.While guarded) rest = guarded_row w.marks (is kind.While) w.expr w.stmt guarded rest
+stmt_row w (Stmt-F.For word begin start first test second step end body) rest =
+    mark w.marks kind.For word (mark w.marks kind.LeftParen begin (maybe (for_start_row w.marks w.expr w.slot) start
+    (mark w.marks kind.Semicolon first (maybe w.expr test
+    (mark w.marks kind.Semicolon second (maybe w.expr step (mark w.marks kind.RightParen end (w.stmt body rest))))))))
+stmt_row w (Stmt-F.ForIn word begin left mark_ value end body) rest =
+    mark w.marks kind.For word (mark w.marks kind.LeftParen begin (left_row w.marks w.pattern left
+    (mark w.marks kind.In mark_ (w.expr value (mark w.marks kind.RightParen end (w.stmt body rest))))))
+stmt_row w (Stmt-F.ForOf word begin left mark_ value end body) rest =
+    mark w.marks kind.For word (mark w.marks kind.LeftParen begin (left_row w.marks w.pattern left
+    (mark w.marks kind.Name mark_ (w.expr value (mark w.marks kind.RightParen end (w.stmt body rest))))))
+stmt_row w (Stmt-F.Jump word label semi) rest =
+    w.marks.token is_jump word (maybe (λ t more. w.marks.ahead on_line (mark w.marks kind.Name t more)) label (may_mark w.marks kind.Semicolon semi rest))
 stmt_row w (Stmt-F.Return word value semi) rest =
     mark w.marks kind.Return word (maybe (λ x more. w.marks.ahead on_line (w.expr x more)) value (may_mark w.marks kind.Semicolon semi rest))
+stmt_row w (Stmt-F.Throw word value semi) rest = mark w.marks kind.Throw word (w.marks.ahead on_line (w.expr value (may_mark w.marks kind.Semicolon semi rest)))
+stmt_row w (Stmt-F.Switch word value begin cases end) rest =
+    mark w.marks kind.Switch word (enclosed_row w.marks w.expr value (mark w.marks kind.LeftBrace begin (each_of (case_row w.marks w.expr w.stmt) cases (mark w.marks kind.RightBrace end rest))))
+stmt_row w (Stmt-F.Try word body handler last) rest =
+    mark w.marks kind.Try word (w.stmt body (maybe (handler_row w.marks w.pattern w.stmt) handler (maybe (further_row w.marks w.stmt (is kind.Finally)) last rest)))
+stmt_row w (Stmt-F.Label name colon body) rest = mark w.marks kind.Name name (mark w.marks kind.Colon colon (w.stmt body rest))
+stmt_row w (Stmt-F.Debugger word semi) rest = mark w.marks kind.Debugger word (may_mark w.marks kind.Semicolon semi rest)
 stmt_row w (Stmt-F.«Stmt::Fun» function) rest = w.function function rest
 
--- CONDITIONS: what is declared may be, and the pattern of an array or an object is given something; a declared function has a
--- name; in this grammar each `;` is written
+-- CONDITIONS
 
+-- what is declared may be, and the pattern of an array or an object is given something
 abbrev pub declaration_fits : Seen → Bool
 declaration_fits x = stands DECLARED x && (is_some x.name || not x.is_target)
 
+-- the same where no operator `in` may stand
+abbrev pub start_declaration_fits : Seen → Bool
+start_declaration_fits x = declaration_fits x && not x.joins_in
+
+-- a test is a Comma
+abbrev pub guarded_fits : Guarded Seen Seen → Bool
+guarded_fits x = stands 0 x.test.item
+
+abbrev pub for_start_fits : ForStart Seen Seen → Bool
+for_start_fits (start.Vars word first others) = start_declaration_fits first && all_further start_declaration_fits others
+for_start_fits (start.Value x) = stands 0 x && not x.joins_in
+
+abbrev pub left_fits : Left Seen → Bool
+left_fits (left.Vars word target) = stands DECLARED target
+left_fits (left.Target target) = target.is_sound
+
+-- it is the name `async` alone
+abbrev pub is_async : Left Seen → Bool
+is_async (left.Vars word target) = false
+is_async (left.Target target) = is_named (codes "async") target
+
+abbrev pub case_fits : Case Seen Seen → Bool
+case_fits x = passes (stands 0) x.test
+
+-- how many cases have no value
+abbrev pub defaults : List (Case Seen Seen) → ℕ
+defaults [] = 0
+defaults (x ∷ xs) = if is_some x.test then defaults xs else suc (defaults xs)
+
+-- the ranks of statements: a block, and a choice by tests
+abbrev pub BLOCK : ℕ
+BLOCK = 1
+
+abbrev pub IF : ℕ
+IF = 2
+
+abbrev pub is_block : Seen → Bool
+is_block x = x.rank == BLOCK
+
+-- an exception is bound to what may be declared
+abbrev pub handler_fits : Handler Seen Seen → Bool
+handler_fits x = passes (λ e. stands DECLARED e.item) x.target && is_block x.body
+
+-- Behind the last `else` stands no choice by tests. A `switch` has one `default` at most. What is tried is a block, and so is what
+-- follows, of which there is something. A declared function has a name
 abbrev pub stmt_musts : StmtOf Seen → List Bool
-stmt_musts (Stmt-F.Plain value semi) = stands 0 value ∷ is_some semi ∷ []
-stmt_musts (Stmt-F.Vars word first others semi) = declaration_fits first ∷ all_further declaration_fits others ∷ is_some semi ∷ []
-stmt_musts (Stmt-F.Return word value semi) = passes (stands 0) value ∷ is_some semi ∷ []
+stmt_musts (Stmt-F.Vars word first others semi) = declaration_fits first ∷ all_further declaration_fits others ∷ []
+stmt_musts (Stmt-F.Plain value semi) = stands 0 value ∷ []
+stmt_musts (Stmt-F.If first others last) = guarded_fits first ∷ all_further guarded_fits others ∷ passes (λ x. not (x.item.rank == IF)) last ∷ []
+stmt_musts (Stmt-F.Do word body again test semi) = stands 0 test.item ∷ []
+stmt_musts (Stmt-F.While guarded) = guarded_fits guarded ∷ []
+stmt_musts (Stmt-F.For word begin start first test second step end body) = passes for_start_fits start ∷ passes (stands 0) test ∷ passes (stands 0) step ∷ []
+stmt_musts (Stmt-F.ForIn word begin left mark_ value end body) = left_fits left ∷ stands 0 value ∷ []
+stmt_musts (Stmt-F.ForOf word begin left mark_ value end body) = bytes_eq mark_.text (codes "of") ∷ left_fits left ∷ not (is_async left) ∷ stands ASSIGN value ∷ []
+stmt_musts (Stmt-F.Return word value semi) = passes (stands 0) value ∷ []
+stmt_musts (Stmt-F.Throw word value semi) = stands 0 value ∷ []
+stmt_musts (Stmt-F.Switch word value begin cases end) = stands 0 value.item ∷ list_all case_fits cases ∷ nat_le (defaults cases) 1 ∷ []
+stmt_musts (Stmt-F.Try word body handler last) = is_block body ∷ passes handler_fits handler ∷ passes (λ x. is_block x.item) last ∷ (is_some handler || is_some last) ∷ []
 stmt_musts (Stmt-F.«Stmt::Fun» function) = is_some function.name ∷ []
+stmt_musts _ = []
+
+-- WHAT FOLLOWS
+
+-- where the `;` isn't written, the next token ends a statement that ends so
+abbrev pub semi_behind : Ending → Option Token → Onto
+semi_behind ending None rest = Ahead (may_end ending) ∷ rest
+semi_behind ending (Some t) rest = rest
+
+-- the same of a loop that tests behind its body, whose `;` may always be left out
+abbrev pub do_behind : Option Token → Onto
+do_behind None rest = Ahead no_semicolon ∷ rest
+do_behind (Some t) rest = rest
+
+-- an `else` belongs to the nearest `if`
+abbrev pub else_behind : {X : Type 0} → Option X → Onto
+else_behind None rest = Ahead no_else ∷ rest
+else_behind (Some x) rest = rest
+
+-- with what a statement ends that may give a value
+abbrev pub value_ending : Option Seen → Ending
+value_ending None = AfterWord
+value_ending (Some x) = x.ending
+
+abbrev pub stmt_behind : StmtOf Seen → Onto
+stmt_behind (Stmt-F.Vars word first others semi) = semi_behind (last_ending first.ending others) semi
+stmt_behind (Stmt-F.Plain value semi) = semi_behind value.ending semi
+stmt_behind (Stmt-F.If first others last) = else_behind last
+stmt_behind (Stmt-F.Do word body again test semi) = do_behind semi
+stmt_behind (Stmt-F.Jump word label semi) = semi_behind AfterWord semi
+stmt_behind (Stmt-F.Return word value semi) = semi_behind (value_ending value) semi
+stmt_behind (Stmt-F.Throw word value semi) = semi_behind value.ending semi
+stmt_behind (Stmt-F.Debugger word semi) = semi_behind AfterWord semi
+stmt_behind _ = λ rest. rest
+
+-- WHAT ELSE IS SEEN
+
+abbrev pub stmt_rank : StmtOf Seen → ℕ
+stmt_rank (Stmt-F.«Stmt::Block» block) = BLOCK
+stmt_rank (Stmt-F.If first others last) = IF
+stmt_rank _ = 0
+
+-- what a loop declares first is a statement of its own
+abbrev pub for_start_height : Option (ForStart Seen Seen) → ℕ
+for_start_height (Some (start.Vars word first others)) = suc (max first.height (each_of (λ x h. max x.item.height h) others 0))
+for_start_height _ = 0
+
+abbrev pub start_height : StmtOf Seen → ℕ
+start_height (Stmt-F.For word begin start first test second step end body) = for_start_height start
+start_height _ = 0
 
 abbrev pub stmt_step : StmtOf Seen → Seen
 stmt_step x = record {
-  line = λ rest. musts (stmt_musts x) (stmt_row lines x rest);
-  rank = 0;
+  line = λ rest. musts (stmt_musts x) (stmt_row lines x (stmt_behind x rest));
+  rank = stmt_rank x;
   ending = AfterOperand;
   is_sound = true;
   is_target = false;
@@ -44,5 +187,5 @@ stmt_step x = record {
   names_await = stmt_row (some_has (λ s. s.names_await)) x false;
   uses_yield = stmt_row (some_has (λ s. s.uses_yield)) x false;
   uses_await = stmt_row (some_has (λ s. s.uses_await)) x false;
-  height = stmt_row highest_of x 0 + 1;
+  height = max (start_height x) (stmt_row highest_of x 0) + 1;
 }
