@@ -20,8 +20,10 @@ use Rattle.js_tree.specs.Pieces.{Piece, Tok, tokens}
 use Rattle.js_tree.specs.Spelling.{expr, stmts}
 use Rattle.js_tree.specs.Spelling.Expressions.{expr_musts, expr_row}
 use Rattle.js_tree.specs.Spelling.Functions.{function_musts, function_row}
-use Rattle.js_tree.specs.Spelling.Statements.{stmt_musts, stmt_row}
-use Rattle.js_tree.specs.Spelling.Nodes.{pieces, musts, seen_line}
+use Rattle.js_tree.specs.declared.tree.Expr.TheOpen.{Stmt-F}
+use Rattle.js_tree.specs.Folds.{StmtOf}
+use Rattle.js_tree.specs.Spelling.Statements.{stmt_behind, stmt_musts, stmt_row, semi_behind, do_behind, else_behind}
+use Rattle.js_tree.specs.Spelling.Nodes.{Ending, Seen, pieces, musts, seen_line}
 use Rattle.js_tree.specs.Spelling.Rows.{each_of, maybe, tail_row}
 use Rattle.js_tree.proofs.Folds.{map_tail}
 use Rattle.js_tree.proofs.GatherLemmas.{along_parts}
@@ -51,6 +53,30 @@ Puts n = (rest : List Piece) → tokens (spelling_of n rest) ≡ tokens_in n ++ 
 tokens-musts : (bs : List Bool) (ps : List Piece) → tokens (musts bs ps) ≡ tokens ps
 tokens-musts [] ps = refl
 tokens-musts (b ∷ bs) ps = tokens-musts bs ps
+
+semi-tokens : (e : Ending) (o : Option Token) (ps : List Piece) → tokens (semi_behind e o ps) ≡ tokens ps
+semi-tokens e None ps = refl
+semi-tokens e (Some t) ps = refl
+
+do-tokens : (o : Option Token) (ps : List Piece) → tokens (do_behind o ps) ≡ tokens ps
+do-tokens None ps = refl
+do-tokens (Some t) ps = refl
+
+else-tokens : {X : Type 0} (o : Option X) (ps : List Piece) → tokens (else_behind o ps) ≡ tokens ps
+else-tokens None ps = refl
+else-tokens (Some t) ps = refl
+
+-- what is asked of the next token behind a statement is no token
+behind-tokens : (x : StmtOf Seen) (ps : List Piece) → tokens (stmt_behind x ps) ≡ tokens ps
+behind-tokens (Stmt-F.Vars word first others semi) ps = semi-tokens _ semi ps
+behind-tokens (Stmt-F.Plain value semi) ps = semi-tokens _ semi ps
+behind-tokens (Stmt-F.If first others last) ps = else-tokens last ps
+behind-tokens (Stmt-F.Do word body again test semi) ps = do-tokens semi ps
+behind-tokens (Stmt-F.Jump word label semi) ps = semi-tokens _ semi ps
+behind-tokens (Stmt-F.Return word value semi) ps = semi-tokens _ semi ps
+behind-tokens (Stmt-F.Throw word value semi) ps = semi-tokens _ semi ps
+behind-tokens (Stmt-F.Debugger word semi) ps = semi-tokens _ semi ps
+behind-tokens _ ps = refl
 
 module _ (ts : List Token) where
   -- the pieces and the items are the same tokens
@@ -98,7 +124,9 @@ node_spelled (APattern x) each rest = ap tokens (pattern_line x rest) ∙ patter
 node_spelled (APatternProperty x) each rest = ap tokens (pattern_property_line x rest) ∙ pattern_property_keeps L items Puts (Alike (tokens rest)) (alike (tokens rest)) (out-PatternProperty x) rest [] each refl
 node_spelled (AProperty x) each rest = ap tokens (property_line x rest) ∙ property_keeps L items Puts (Alike (tokens rest)) (alike (tokens rest)) (out-Property x) rest [] each refl
 node_spelled (AStmt x) each rest =
-    ap tokens (stmt_line x rest) ∙ tokens-musts (stmt_musts (stmt_layer (out-Stmt x))) (stmt_row L (out-Stmt x) rest) ∙ stmt_keeps L items Puts (Alike (tokens rest)) (alike (tokens rest)) (out-Stmt x) rest [] each refl
+    let behind : List Piece = stmt_behind (stmt_layer (out-Stmt x)) rest in
+    ap tokens (stmt_line x rest) ∙ tokens-musts (stmt_musts (stmt_layer (out-Stmt x))) (stmt_row L (out-Stmt x) behind)
+    ∙ stmt_keeps L items Puts (Alike (tokens rest)) (alike (tokens rest)) (out-Stmt x) behind [] each (behind-tokens (stmt_layer (out-Stmt x)) rest)
 node_spelled (ASlot x) each rest = ap tokens (slot_line x rest) ∙ slot_keeps L items Puts (Alike (tokens rest)) (alike (tokens rest)) (out-Slot x) rest [] each refl
 node_spelled (ATail head before t) each rest = tail_keeps L items Puts (Alike (tokens rest)) (alike (tokens rest)) t rest [] each refl
 node_spelled (ABody body) each rest = body_keeps L items Puts (Alike (tokens rest)) (alike (tokens rest)) body rest [] each refl

@@ -6,7 +6,12 @@ use Rattle.js_tree.specs.declared.lists.ArrowParams.{ArrowParams}
 use Rattle.js_tree.specs.declared.lists.ArrowParams.TheVariants as shape
 use Rattle.js_tree.specs.declared.lists.Block.{Block}
 use Rattle.js_tree.specs.declared.lists.Bracket.{Bracket}
+use Rattle.js_tree.specs.declared.lists.Case.{Case}
 use Rattle.js_tree.specs.declared.lists.Element.{Element}
+use Rattle.js_tree.specs.declared.lists.ForStart.{ForStart}
+use Rattle.js_tree.specs.declared.lists.ForStart.TheVariants as start
+use Rattle.js_tree.specs.declared.lists.Handler.{Handler}
+use Rattle.js_tree.specs.declared.lists.Left.TheVariants as left
 use Rattle.js_tree.specs.declared.lists.Listed.{Listed}
 use Rattle.js_tree.specs.declared.lists.Tail.{Tail}
 use Rattle.js_tree.specs.declared.lists.Tail.TheVariants as tail
@@ -16,16 +21,16 @@ use Rattle.js_tree.specs.declared.token_kind.TokenKind.TheVariants as kind
 use Rattle.js_tree.specs.declared.tree.Expr.{Expr}
 use Rattle.js_tree.specs.declared.tree.Expr.TheOpen.{Expr-F, Function-F, Key-F, Pattern-F, PatternProperty-F, Property-F, Stmt-F}
 use Rattle.js_tree.specs.Folds.{Views, ExprOf, FunctionOf, PatternOf, SlotOf, StmtOf, ExprLayer, FunctionLayer, KeyLayer, PatternLayer, PatternPropertyLayer, PropertyLayer, StmtLayer, SlotLayer, seen_expr, seen_function, seen_key, seen_pattern, seen_pattern_property, seen_property, seen_stmt, seen_slot}
-use Rattle.js_tree.specs.Operators.{begins_value, is_binary, on_line}
+use Rattle.js_tree.specs.Operators.{begins_value, is_binary, is_declarator, on_line}
 use Rattle.js_tree.specs.Parts.{Node, ATail, NodeWriter, each_tail}
 use Rattle.js_tree.specs.Spelling.Expressions.{expr_row}
 use Rattle.js_tree.specs.Spelling.Functions.{function_row}
 use Rattle.js_tree.specs.Spelling.Patterns.{pattern_row, pattern_property_row, slot_row}
 use Rattle.js_tree.specs.Spelling.Properties.{key_row, property_row}
-use Rattle.js_tree.specs.Spelling.Rows.{Marks, WriterOf, mark, may_mark, each_of, maybe, further_row, listed_row, bracket_row, element_row, round_row, item_row, array_row, arrow_params_row, template_head, template_mark, template_parts, template_row, tail_row, arm_row, init_row, block_row}
+use Rattle.js_tree.specs.Spelling.Rows.{Marks, WriterOf, mark, may_mark, each_of, maybe, further_row, listed_row, bracket_row, element_row, round_row, item_row, array_row, arrow_params_row, template_head, template_mark, template_parts, template_row, tail_row, arm_row, init_row, block_row, enclosed_row, guarded_row, for_start_row, case_word, case_row, handler_row}
 use Rattle.js_tree.specs.Spelling.Statements.{stmt_row}
 use Rattle.js_tree.specs.TokenKinds.{is}
-use Rattle.js_tree.proofs.Folds.{map_maybe, map_further, map_listed, map_element, map_bracket, map_round, map_array, map_params, map_template, map_tail, map_arm, map_init, map_block, layer-Array, layer-Object, layer-ArrayPattern, layer-ObjectPattern, layer-Chain, layer-New, layer-Keyword, layer-Arrow, layer-ArrowBlock, layer-Return, layer-Slot}
+use Rattle.js_tree.proofs.Folds.{map_maybe, map_further, map_listed, map_element, map_bracket, map_round, map_array, map_params, map_template, map_tail, map_arm, map_init, map_block, map_enclosed, map_guarded, map_for_start, map_case, map_handler, layer-Array, layer-Object, layer-ArrayPattern, layer-ObjectPattern, layer-Chain, layer-New, layer-Keyword, layer-Arrow, layer-ArrowBlock, layer-If, layer-For, layer-Return, layer-Switch, layer-Try, layer-Slot}
 
 -- the next tail of a chain
 pub drop_next : {X : Type 0} (xs : List X) (i : ℕ) (d : X) → i < length xs → drop i xs ≡ get_or xs i d ∷ drop (i + 1) xs
@@ -113,6 +118,23 @@ module _ {X Y R : Type 0} (m : Marks R) (put : Y → R → R) (f : X → Y) wher
   pub block_map : (b : Block X) (rest : R) → block_row m put (map_block f b) rest ≡ block_row m (λ x. put (f x)) b rest
   block_map b rest = ap (mark m kind.LeftBrace b.begin) (each_map put f b.body (mark m kind.RightBrace b.end rest))
 
+word_map : {X Y : Type 0} (f : X → Y) (o : Option X) → case_word (map_maybe f o) ≡ case_word o
+word_map f None = refl
+word_map f (Some x) = refl
+
+module _ {X Y U V R : Type 0} (m : Marks R) (put : Y → R → R) (also : V → R → R) (f : X → Y) (g : U → V) where
+  pub for_start_map : (x : ForStart X U) (rest : R) → for_start_row m put also (map_for_start f g x) rest ≡ for_start_row m (λ x. put (f x)) (λ x. also (g x)) x rest
+  for_start_map (start.Vars word first others) rest = ap (λ r. m.token is_declarator word (also (g first) r)) (each_map (further_row m also (is kind.Comma)) (map_further g) others rest)
+  for_start_map (start.Value x) rest = refl
+
+  pub case_map : (x : Case X U) (rest : R) → case_row m put also (map_case f g x) rest ≡ case_row m (λ x. put (f x)) (λ x. also (g x)) x rest
+  case_map x rest =
+      let behind = maybe_map put f x.test (mark m kind.Colon x.colon (each_of also (map g x.body) rest)) ∙ ap (λ r. maybe (λ x. put (f x)) x.test (mark m kind.Colon x.colon r)) (each_map also g x.body rest) in
+      λ i. m.token (word_map f x.test i) x.word (behind i)
+
+  pub handler_map : (x : Handler X U) (rest : R) → handler_row m put also (map_handler f g x) rest ≡ handler_row m (λ x. put (f x)) (λ x. also (g x)) x rest
+  handler_map x rest = ap (mark m kind.Catch x.word) (maybe_map (enclosed_row m put) (map_enclosed f) x.target (also (g x.body) rest))
+
 module _ {A R : Type 0} (w : WriterOf A R) (v : Views A) where
   -- the same use over what is seen
   abbrev pub over : NodeWriter R
@@ -178,12 +200,49 @@ module _ {A R : Type 0} (w : WriterOf A R) (v : Views A) where
   property_over (Property-F.Spread dots value) rest = refl
 
   pub stmt_over : (x : StmtLayer) (rest : R) → stmt_row w (seen_stmt v x) rest ≡ stmt_row over x rest
+  stmt_over (Stmt-F.«Stmt::Block» block) rest = block_map w.marks w.stmt v.stmt block rest
   stmt_over (Stmt-F.Vars word first others semi) rest =
-      ap (λ r. mark w.marks kind.Var word (w.slot (v.slot first) r)) (each_map (further_row w.marks w.slot (is kind.Comma)) (map_further v.slot) others (may_mark w.marks kind.Semicolon semi rest))
+      ap (λ r. w.marks.token is_declarator word (w.slot (v.slot first) r)) (each_map (further_row w.marks w.slot (is kind.Comma)) (map_further v.slot) others (may_mark w.marks kind.Semicolon semi rest))
+  stmt_over (Stmt-F.Empty semi) rest = refl
+  stmt_over (Stmt-F.Plain value semi) rest = refl
+  stmt_over (Stmt-F.If first others last) rest =
+      let guarded = guarded_row w.marks (is kind.If) w.expr w.stmt in
+      ap (λ (l : StmtOf A). stmt_row w l rest) (layer-If v first others last)
+      ∙ ap (guarded (map_guarded v.expr v.stmt first))
+      (each_map (further_row w.marks guarded (is kind.Else)) (map_further (map_guarded v.expr v.stmt)) others (maybe (further_row w.marks w.stmt (is kind.Else)) (map_maybe (map_further v.stmt) last) rest)
+      ∙ ap (each_of (further_row w.marks (guarded_row w.marks (is kind.If) over.expr over.stmt) (is kind.Else)) others) (maybe_map (further_row w.marks w.stmt (is kind.Else)) (map_further v.stmt) last rest))
+  stmt_over (Stmt-F.Do word body again test semi) rest = refl
+  stmt_over (Stmt-F.While guarded) rest = refl
+  stmt_over (Stmt-F.For word begin o first test second step end body) rest =
+      let inner = w.marks.token (is kind.RightParen) end (w.stmt (v.stmt body) rest) in
+      let last = maybe_map w.expr v.expr step inner in
+      let middle = maybe_map w.expr v.expr test (mark w.marks kind.Semicolon second (maybe w.expr (map_maybe v.expr step) inner)) ∙ ap (λ r. maybe over.expr test (mark w.marks kind.Semicolon second r)) last in
+      ap (λ (l : StmtOf A). stmt_row w l rest) (layer-For v word begin o first test second step end body)
+      ∙ ap (λ r. mark w.marks kind.For word (mark w.marks kind.LeftParen begin r))
+      (maybe_over (for_start_row w.marks w.expr w.slot) (for_start_row w.marks over.expr over.slot) (map_for_start v.expr v.slot) (for_start_map w.marks w.expr w.slot v.expr v.slot) o
+      (mark w.marks kind.Semicolon first (maybe w.expr (map_maybe v.expr test) (mark w.marks kind.Semicolon second (maybe w.expr (map_maybe v.expr step) inner))))
+      ∙ ap (λ r. maybe (for_start_row w.marks over.expr over.slot) o (mark w.marks kind.Semicolon first r)) middle)
+  stmt_over (Stmt-F.ForIn word begin (left.Vars declarator target) sign value end body) rest = refl
+  stmt_over (Stmt-F.ForIn word begin (left.Target target) sign value end body) rest = refl
+  stmt_over (Stmt-F.ForOf word begin (left.Vars declarator target) sign value end body) rest = refl
+  stmt_over (Stmt-F.ForOf word begin (left.Target target) sign value end body) rest = refl
+  stmt_over (Stmt-F.Jump word label semi) rest = refl
   stmt_over (Stmt-F.Return word value semi) rest =
       ap (λ (l : StmtOf A). stmt_row w l rest) (layer-Return v word value semi)
       ∙ ap (mark w.marks kind.Return word) (maybe_map (λ x more. w.marks.ahead on_line (w.expr x more)) v.expr value (may_mark w.marks kind.Semicolon semi rest))
-  stmt_over (Stmt-F.Plain value semi) rest = refl
+  stmt_over (Stmt-F.Throw word value semi) rest = refl
+  stmt_over (Stmt-F.Switch word value begin cases end) rest =
+      ap (λ (l : StmtOf A). stmt_row w l rest) (layer-Switch v word value begin cases end)
+      ∙ ap (λ r. mark w.marks kind.Switch word (enclosed_row w.marks over.expr value (mark w.marks kind.LeftBrace begin r)))
+      (each_over (case_row w.marks w.expr w.stmt) (case_row w.marks over.expr over.stmt) (map_case v.expr v.stmt) (case_map w.marks w.expr w.stmt v.expr v.stmt) cases (mark w.marks kind.RightBrace end rest))
+  stmt_over (Stmt-F.Try word body handler last) rest =
+      ap (λ (l : StmtOf A). stmt_row w l rest) (layer-Try v word body handler last)
+      ∙ ap (λ r. mark w.marks kind.Try word (w.stmt (v.stmt body) r))
+      (maybe_over (handler_row w.marks w.pattern w.stmt) (handler_row w.marks over.pattern over.stmt) (map_handler v.pattern v.stmt) (handler_map w.marks w.pattern w.stmt v.pattern v.stmt) handler
+      (maybe (further_row w.marks w.stmt (is kind.Finally)) (map_maybe (map_further v.stmt) last) rest)
+      ∙ ap (maybe (handler_row w.marks over.pattern over.stmt) handler) (maybe_map (further_row w.marks w.stmt (is kind.Finally)) (map_further v.stmt) last rest))
+  stmt_over (Stmt-F.Label name colon body) rest = refl
+  stmt_over (Stmt-F.Debugger word semi) rest = refl
   stmt_over (Stmt-F.«Stmt::Fun» function) rest = refl
 
   pub slot_over : (x : SlotLayer) (rest : R) → slot_row w (seen_slot v x) rest ≡ slot_row over x rest

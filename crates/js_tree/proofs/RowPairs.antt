@@ -6,9 +6,17 @@ use Rattle.js_tree.specs.declared.lists.ArrowParams.{ArrowParams}
 use Rattle.js_tree.specs.declared.lists.ArrowParams.TheVariants as shape
 use Rattle.js_tree.specs.declared.lists.Block.{Block}
 use Rattle.js_tree.specs.declared.lists.Bracket.{Bracket}
+use Rattle.js_tree.specs.declared.lists.Case.{Case}
 use Rattle.js_tree.specs.declared.lists.Element.{Element}
+use Rattle.js_tree.specs.declared.lists.Enclosed.{Enclosed}
+use Rattle.js_tree.specs.declared.lists.ForStart.{ForStart}
+use Rattle.js_tree.specs.declared.lists.ForStart.TheVariants as start
 use Rattle.js_tree.specs.declared.lists.Further.{Further}
+use Rattle.js_tree.specs.declared.lists.Guarded.{Guarded}
+use Rattle.js_tree.specs.declared.lists.Handler.{Handler}
 use Rattle.js_tree.specs.declared.lists.Init.{Init}
+use Rattle.js_tree.specs.declared.lists.Left.{Left}
+use Rattle.js_tree.specs.declared.lists.Left.TheVariants as left
 use Rattle.js_tree.specs.declared.lists.Listed.{Listed}
 use Rattle.js_tree.specs.declared.lists.Tail.{Tail}
 use Rattle.js_tree.specs.declared.lists.Tail.TheVariants as tail
@@ -26,13 +34,13 @@ use Rattle.js_tree.specs.declared.tree.Property.{Property}
 use Rattle.js_tree.specs.declared.tree.Slot.{Slot}
 use Rattle.js_tree.specs.declared.tree.Stmt.{Stmt}
 use Rattle.js_tree.specs.Folds.{ExprLayer, FunctionLayer, KeyLayer, PatternLayer, PatternPropertyLayer, PropertyLayer, StmtLayer, SlotLayer}
-use Rattle.js_tree.specs.Operators.{begins_plain, begins_value, is_assignment, is_binary, is_key, is_literal, is_member_name, is_unary, is_update, on_line}
+use Rattle.js_tree.specs.Operators.{begins_plain, begins_value, is_assignment, is_binary, is_declarator, is_jump, is_key, is_literal, is_member_name, is_unary, is_update, on_line}
 use Rattle.js_tree.specs.Parts.{Node, AnExpr, AFunction, AKey, APattern, APatternProperty, AProperty, AStmt, ASlot, NodeWriter, nodes, tails_behind}
 use Rattle.js_tree.specs.Spelling.Expressions.{expr_row}
 use Rattle.js_tree.specs.Spelling.Functions.{function_row}
 use Rattle.js_tree.specs.Spelling.Patterns.{pattern_row, pattern_property_row, slot_row}
 use Rattle.js_tree.specs.Spelling.Properties.{key_row, property_row}
-use Rattle.js_tree.specs.Spelling.Rows.{Marks, may_mark, each_of, maybe, further_row, listed_row, element_row, bracket_row, round_row, arrow_params_row, template_head, template_mark, template_parts, template_row, tail_row, arm_row, init_row, block_row}
+use Rattle.js_tree.specs.Spelling.Rows.{Marks, mark, may_mark, each_of, maybe, further_row, listed_row, element_row, bracket_row, round_row, arrow_params_row, template_head, template_mark, template_parts, template_row, tail_row, arm_row, init_row, block_row, enclosed_row, guarded_row, for_start_row, left_row, case_word, case_row, handler_row}
 use Rattle.js_tree.specs.Spelling.Nodes.{unmarked}
 use Rattle.js_tree.specs.Spelling.Statements.{stmt_row}
 use Rattle.js_tree.specs.TokenKinds.{is}
@@ -120,6 +128,9 @@ module _ {R S : Type 0} (v : NodeWriter R) (w : NodeWriter S) (H : Node → Type
   abbrev stmts : I Stmt
   stmts = record { put = nodes.stmt; one = v.stmt; two = w.stmt; goes = λ x ns r s g. stmt x g }
 
+  abbrev patterns : I Pattern
+  patterns = record { put = nodes.pattern; one = v.pattern; two = w.pattern; goes = λ x ns r s g. pattern x g }
+
   abbrev properties : I Property
   properties = record { put = nodes.property; one = v.property; two = w.property; goes = λ x ns r s g. property x g }
 
@@ -129,6 +140,15 @@ module _ {R S : Type 0} (v : NodeWriter R) (w : NodeWriter S) (H : Node → Type
   -- an expression that must begin on the line
   abbrev values : I Expr
   values = record { put = nodes.expr; one = λ x more. v.marks.ahead on_line (v.expr x more); two = λ x more. w.marks.ahead on_line (w.expr x more); goes = λ x ns r s g. ahead on_line (expr x g) }
+
+  -- a label, on the line
+  abbrev labels : I Token
+  labels = record {
+    put = λ t more. more;
+    one = λ t more. v.marks.ahead on_line (mark v.marks kind.Name t more);
+    two = λ t more. w.marks.ahead on_line (mark w.marks kind.Name t more);
+    goes = λ t ns r s g. ahead on_line (token (is kind.Name) t g);
+  }
 
   module _ {X : Type 0} (i : I X) where
     each : {ns : List Node} {r : R} {s : S} (xs : List X) → G ns r s → G (each_of i.put xs ns) (each_of i.one xs r) (each_of i.two xs s)
@@ -182,6 +202,18 @@ module _ {R S : Type 0} (v : NodeWriter R) (w : NodeWriter S) (H : Node → Type
       goes = λ x ns r s g. token is_assignment x.equals (i.goes x.value _ _ _ g);
     }
 
+    abbrev enclosed : I (Enclosed X)
+    enclosed = record {
+      put = enclosed_row unm i.put;
+      one = enclosed_row v.marks i.one;
+      two = enclosed_row w.marks i.two;
+      goes = λ x ns r s g. token (is kind.LeftParen) x.«open» (i.goes x.item _ _ _ (token (is kind.RightParen) x.close g));
+    }
+
+    one_left : {ns : List Node} {r : R} {s : S} (x : Left X) → G ns r s → G (left_row unm i.put x ns) (left_row v.marks i.one x r) (left_row w.marks i.two x s)
+    one_left (left.Vars word target) g = token is_declarator word (i.goes target _ _ _ g)
+    one_left (left.Target target) g = i.goes target _ _ _ g
+
     substitutions : {ns : List Node} {r : R} {s : S} (xs : List (Listed X)) → G ns r s → G (template_parts unm i.put xs ns) (template_parts v.marks i.one xs r) (template_parts w.marks i.two xs s)
     substitutions [] g = g
     substitutions (x ∷ xs) g = i.goes x.item _ _ _ (token (template_mark xs) x.mark (substitutions xs g))
@@ -191,6 +223,38 @@ module _ {R S : Type 0} (v : NodeWriter R) (w : NodeWriter S) (H : Node → Type
 
     block : {ns : List Node} {r : R} {s : S} (b : Block X) → G ns r s → G (block_row unm i.put b ns) (block_row v.marks i.one b r) (block_row w.marks i.two b s)
     block b g = token (is kind.LeftBrace) b.begin (each b.body (token (is kind.RightBrace) b.end g))
+
+  module _ {X Y : Type 0} (i : I X) (j : I Y) where
+    abbrev guarded : (test : TokenKind → Bool) → I (Guarded X Y)
+    guarded test = record {
+      put = guarded_row unm test i.put j.put;
+      one = guarded_row v.marks test i.one j.one;
+      two = guarded_row w.marks test i.two j.two;
+      goes = λ x ns r s g. token test x.word (token (is kind.LeftParen) x.test.«open» (i.goes x.test.item _ _ _ (token (is kind.RightParen) x.test.close (j.goes x.body _ _ _ g))));
+    }
+
+    one_start : {ns : List Node} {r : R} {s : S} (x : ForStart X Y) → G ns r s → G (for_start_row unm i.put j.put x ns) (for_start_row v.marks i.one j.one x r) (for_start_row w.marks i.two j.two x s)
+    one_start (start.Vars word first others) g = token is_declarator word (j.goes first _ _ _ (each (further j (is kind.Comma)) others g))
+    one_start (start.Value x) g = i.goes x _ _ _ g
+
+    abbrev starts : I (ForStart X Y)
+    starts = record { put = for_start_row unm i.put j.put; one = for_start_row v.marks i.one j.one; two = for_start_row w.marks i.two j.two; goes = λ x ns r s g. one_start x g }
+
+    abbrev cases : I (Case X Y)
+    cases = record {
+      put = case_row unm i.put j.put;
+      one = case_row v.marks i.one j.one;
+      two = case_row w.marks i.two j.two;
+      goes = λ x ns r s g. token (case_word x.test) x.word (perhaps i x.test (token (is kind.Colon) x.colon (each j x.body g)));
+    }
+
+    abbrev handlers : I (Handler X Y)
+    handlers = record {
+      put = handler_row unm i.put j.put;
+      one = handler_row v.marks i.one j.one;
+      two = handler_row w.marks i.two j.two;
+      goes = λ x ns r s g. token (is kind.Catch) x.word (perhaps (enclosed i) x.target (j.goes x.body _ _ _ g));
+    }
 
   module _ (begin end : TokenKind) {X : Type 0} (i : I X) where
     bracket : {ns : List Node} {r : R} {s : S} (b : Bracket X) → G ns r s → G (bracket_row unm begin end i.put b ns) (bracket_row v.marks begin end i.one b r) (bracket_row w.marks begin end i.two b s)
@@ -262,9 +326,31 @@ module _ {R S : Type 0} (v : NodeWriter R) (w : NodeWriter S) (H : Node → Type
   goes_property (Property-F.Spread dots value) g = token (is kind.Dots) dots (expr value g)
 
   goes_stmt : {ns : List Node} {r : R} {s : S} (x : StmtLayer) → G ns r s → G (stmt_row nodes x ns) (stmt_row v x r) (stmt_row w x s)
+  goes_stmt (Stmt-F.«Stmt::Block» b) g = block stmts b g
+  goes_stmt (Stmt-F.Vars word first others semi) g = token is_declarator word (slot first (each (further slots (is kind.Comma)) others (token_maybe kind.Semicolon semi g)))
+  goes_stmt (Stmt-F.Empty semi) g = token (is kind.Semicolon) semi g
   goes_stmt (Stmt-F.Plain value semi) g = ahead begins_plain (expr value (token_maybe kind.Semicolon semi g))
-  goes_stmt (Stmt-F.Vars word first others semi) g = token (is kind.Var) word (slot first (each (further slots (is kind.Comma)) others (token_maybe kind.Semicolon semi g)))
+  goes_stmt (Stmt-F.If first others last) g =
+      let tests = guarded exprs stmts (is kind.If) in
+      tests.goes first _ _ _ (each (further tests (is kind.Else)) others (perhaps (further stmts (is kind.Else)) last g))
+  goes_stmt (Stmt-F.Do word body again test semi) g = token (is kind.Do) word (stmt body (token (is kind.While) again ((enclosed exprs).goes test _ _ _ (token_maybe kind.Semicolon semi g))))
+  goes_stmt (Stmt-F.While x) g = (guarded exprs stmts (is kind.While)).goes x _ _ _ g
+  goes_stmt (Stmt-F.For word begin o first test second step end body) g =
+      token (is kind.For) word (token (is kind.LeftParen) begin (perhaps (starts exprs slots) o
+      (token (is kind.Semicolon) first (perhaps exprs test
+      (token (is kind.Semicolon) second (perhaps exprs step (token (is kind.RightParen) end (stmt body g))))))))
+  goes_stmt (Stmt-F.ForIn word begin l sign value end body) g =
+      token (is kind.For) word (token (is kind.LeftParen) begin (one_left patterns l (token (is kind.In) sign (expr value (token (is kind.RightParen) end (stmt body g))))))
+  goes_stmt (Stmt-F.ForOf word begin l sign value end body) g =
+      token (is kind.For) word (token (is kind.LeftParen) begin (one_left patterns l (token (is kind.Name) sign (expr value (token (is kind.RightParen) end (stmt body g))))))
+  goes_stmt (Stmt-F.Jump word label semi) g = token is_jump word (perhaps labels label (token_maybe kind.Semicolon semi g))
   goes_stmt (Stmt-F.Return word value semi) g = token (is kind.Return) word (perhaps values value (token_maybe kind.Semicolon semi g))
+  goes_stmt (Stmt-F.Throw word value semi) g = token (is kind.Throw) word (ahead on_line (expr value (token_maybe kind.Semicolon semi g)))
+  goes_stmt (Stmt-F.Switch word value begin xs end) g =
+      token (is kind.Switch) word ((enclosed exprs).goes value _ _ _ (token (is kind.LeftBrace) begin (each (cases exprs stmts) xs (token (is kind.RightBrace) end g))))
+  goes_stmt (Stmt-F.Try word body handler last) g = token (is kind.Try) word (stmt body (perhaps (handlers patterns stmts) handler (perhaps (further stmts (is kind.Finally)) last g)))
+  goes_stmt (Stmt-F.Label name colon body) g = token (is kind.Name) name (token (is kind.Colon) colon (stmt body g))
+  goes_stmt (Stmt-F.Debugger word semi) g = token (is kind.Debugger) word (token_maybe kind.Semicolon semi g)
   goes_stmt (Stmt-F.«Stmt::Fun» f) g = function f g
 
   goes_slot : {ns : List Node} {r : R} {s : S} (x : SlotLayer) → G ns r s → G (slot_row nodes x ns) (slot_row v x r) (slot_row w x s)
