@@ -15,9 +15,9 @@ use Rattle.js_tree.specs.declared.tree.Property.{out-Property}
 use Rattle.js_tree.specs.declared.tree.Slot.{out-Slot}
 use Rattle.js_tree.specs.declared.tree.Stmt.{Stmt, out-Stmt}
 use Rattle.js_tree.specs.Line.{LineItem, AToken, ANode, items, possible, line_of, spelling_of, tokens_in, tokens_at, work_for}
-use Rattle.js_tree.specs.Parts.{Node, NodeWriter, AnExpr, AFunction, AKey, APattern, APatternProperty, AProperty, AStmt, ASlot, ATail, ABody, each_tail, nodes, tails_behind, parts, count, left_in}
+use Rattle.js_tree.specs.Parts.{Node, NodeWriter, AnExpr, AFunction, AKey, APattern, APatternProperty, AProperty, AStmt, ASlot, ATail, ABody, ACases, AHandler, each_tail, nodes, tails_behind, parts, count, left_in}
 use Rattle.js_tree.specs.Pieces.{Piece, Tok, tokens}
-use Rattle.js_tree.specs.Spelling.{expr, stmts}
+use Rattle.js_tree.specs.Spelling.{expr, pattern, stmt, stmts}
 use Rattle.js_tree.specs.Spelling.Expressions.{expr_musts, expr_row}
 use Rattle.js_tree.specs.Spelling.Functions.{function_musts, function_row}
 use Rattle.js_tree.specs.declared.tree.Expr.TheOpen.{Stmt-F}
@@ -28,8 +28,8 @@ use Rattle.js_tree.specs.Spelling.Rows.{each_of, maybe, tail_row}
 use Rattle.js_tree.proofs.Folds.{map_tail}
 use Rattle.js_tree.proofs.GatherLemmas.{along_parts}
 use Rattle.js_tree.proofs.PartLemmas.{Any, all_any, count_is}
-use Rattle.js_tree.proofs.RowLemmas.{tail_map}
-use Rattle.js_tree.proofs.RowPairs.{Keeps, expr_keeps, function_keeps, key_keeps, pattern_keeps, pattern_property_keeps, property_keeps, stmt_keeps, slot_keeps, tail_keeps, body_keeps}
+use Rattle.js_tree.proofs.RowLemmas.{each_map, tail_map, cases_map, handler_map}
+use Rattle.js_tree.proofs.RowPairs.{Keeps, expr_keeps, function_keeps, key_keeps, pattern_keeps, pattern_property_keeps, property_keeps, stmt_keeps, slot_keeps, tail_keeps, body_keeps, cases_keeps, handler_keeps}
 use Rattle.js_tree.proofs.SpellingLemmas.{expr_line, function_line, key_line, pattern_line, pattern_property_line, property_line, stmt_line, slot_line, seen_lines, expr_layer, function_layer, stmt_layer}
 use Rattle.js_tree.proofs.WalkLemmas.{left_more, sum_more, sum_mapped}
 
@@ -108,6 +108,9 @@ module _ (ts : List Token) where
     stmt = λ x r s h e. h r ∙ ap (λ us. tokens_in (AStmt x) ++ us) e;
     slot = λ x r s h e. h r ∙ ap (λ us. tokens_in (ASlot x) ++ us) e;
     tails = λ head us ns r s h k. tails_alike head [] us ns r s h k;
+    body = λ xs r s h e. ap tokens (each_map seen_line stmt xs r) ∙ h r ∙ ap (λ us. tokens_in (ABody xs) ++ us) e;
+    cases = λ xs r s h e. ap tokens (cases_map pieces seen_line seen_line expr stmt xs r) ∙ h r ∙ ap (λ us. tokens_in (ACases xs) ++ us) e;
+    handler = λ x r s h e. ap tokens (handler_map pieces seen_line seen_line pattern stmt x r) ∙ h r ∙ ap (λ us. tokens_in (AHandler x) ++ us) e;
   }
 
 abbrev L : NodeWriter (List Piece)
@@ -130,6 +133,8 @@ node_spelled (AStmt x) each rest =
 node_spelled (ASlot x) each rest = ap tokens (slot_line x rest) ∙ slot_keeps L items Puts (Alike (tokens rest)) (alike (tokens rest)) (out-Slot x) rest [] each refl
 node_spelled (ATail head before t) each rest = tail_keeps L items Puts (Alike (tokens rest)) (alike (tokens rest)) t rest [] each refl
 node_spelled (ABody body) each rest = body_keeps L items Puts (Alike (tokens rest)) (alike (tokens rest)) body rest [] each refl
+node_spelled (ACases xs) each rest = cases_keeps L items Puts (Alike (tokens rest)) (alike (tokens rest)) xs rest [] each refl
+node_spelled (AHandler x) each rest = handler_keeps L items Puts (Alike (tokens rest)) (alike (tokens rest)) x rest [] each refl
 
 line_tokens : (n : Node) → AllByRecursion Puts (parts n) → tokens_in n ≡ flat_map tokens_at (line_of n)
 unfolding tokens_in
@@ -179,6 +184,9 @@ have_nodes = record {
   stmt = λ x r s h e. ap (λ ms. AStmt x ∷ ms) e;
   slot = λ x r s h e. ap (λ ms. ASlot x ∷ ms) e;
   tails = λ head us ns r s h k. tails_have head [] us r s (k (all_any ns));
+  body = λ xs r s h e. ap (λ ms. ABody xs ∷ ms) e;
+  cases = λ xs r s h e. ap (λ ms. ACases xs ∷ ms) e;
+  handler = λ x r s h e. ap (λ ms. AHandler x ∷ ms) e;
 }
 
 -- the nodes in the line of a node are its parts
@@ -193,6 +201,8 @@ line_nodes (AStmt x) = stmt_keeps items nodes Any HasNodes have_nodes (out-Stmt 
 line_nodes (ASlot x) = slot_keeps items nodes Any HasNodes have_nodes (out-Slot x) [] [] (all_any (parts (ASlot x))) refl
 line_nodes (ATail head before t) = tail_keeps items nodes Any HasNodes have_nodes t [] [] (all_any (parts (ATail head before t))) refl
 line_nodes (ABody body) = body_keeps items nodes Any HasNodes have_nodes body [] [] (all_any (parts (ABody body))) refl
+line_nodes (ACases xs) = cases_keeps items nodes Any HasNodes have_nodes xs [] [] (all_any (parts (ACases xs))) refl
+line_nodes (AHandler x) = handler_keeps items nodes Any HasNodes have_nodes x [] [] (all_any (parts (AHandler x))) refl
 
 work_is : (ps : List LineItem) → sum_by work_for ps ≡ length (flat_map tokens_at ps) + sum_by count (nodes_in ps)
 work_is [] = refl

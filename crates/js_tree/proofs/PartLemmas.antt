@@ -2,6 +2,8 @@
 use Rattle.std.proofs.Common.{◌≡◌, ℕ, zero, suc, ◌-◌, ◌<◌, ◌≤◌, max, List, [], ◌∷◌, ◌++◌, map, sum, refl, ap, ◌∙◌, append-nil, arith, Option, Some, None}
 use Rattle.std.specs.List.{AllByRecursion, flat_map}
 use Rattle.std.proofs.lemmas.List.Folds.{flat_map-map}
+use Rattle.js_tree.specs.declared.lists.Case.{Case}
+use Rattle.js_tree.specs.declared.lists.Handler.{Handler}
 use Rattle.js_tree.specs.declared.lists.Tail.{Tail}
 use Rattle.js_tree.specs.declared.tree.Expr.{Expr, out-Expr, fold_out-Expr}
 use Rattle.js_tree.specs.declared.tree.Function.{Function, out-Function, fold_out-Function}
@@ -12,12 +14,12 @@ use Rattle.js_tree.specs.declared.tree.Property.{Property, out-Property, fold_ou
 use Rattle.js_tree.specs.declared.tree.Slot.{Slot, out-Slot, fold_out-Slot}
 use Rattle.js_tree.specs.declared.tree.Stmt.{Stmt, out-Stmt, fold_out-Stmt}
 use Rattle.js_tree.specs.Folds.{fold_expr, fold_function, fold_key, fold_pattern, fold_pattern_property, fold_property, fold_stmt, fold_slot, fold_views}
-use Rattle.js_tree.specs.Parts.{Node, AnExpr, AFunction, AKey, APattern, APatternProperty, AProperty, AStmt, ASlot, ATail, ABody, NodeWriter, nodes, tails_behind, parts, greatest, heights, above_expr, above_stmt, height, folded_to, folded, count, unless_passed, gathered}
+use Rattle.js_tree.specs.Parts.{Node, AnExpr, AFunction, AKey, APattern, APatternProperty, AProperty, AStmt, ASlot, ATail, ABody, ACases, AHandler, NodeWriter, nodes, tails_behind, parts, greatest, heights, above_expr, above_pattern, above_stmt, height, folded_to, folded, count, unless_passed, gathered}
 use Rattle.js_tree.specs.Spelling.{tallest_of}
-use Rattle.js_tree.specs.Spelling.Rows.{each_of, tail_row}
+use Rattle.js_tree.specs.Spelling.Rows.{each_of, tail_row, case_row, handler_row}
 use Rattle.js_tree.specs.Spelling.Nodes.{unmarked}
-use Rattle.js_tree.proofs.RowLemmas.{over, tails_map, expr_over, function_over, key_over, pattern_over, pattern_property_over, property_over, stmt_over, slot_over}
-use Rattle.js_tree.proofs.RowPairs.{Keeps, expr_keeps, function_keeps, key_keeps, pattern_keeps, pattern_property_keeps, property_keeps, stmt_keeps, slot_keeps, tail_keeps, body_keeps}
+use Rattle.js_tree.proofs.RowLemmas.{over, each_map, tails_map, cases_map, handler_map, expr_over, function_over, key_over, pattern_over, pattern_property_over, property_over, stmt_over, slot_over}
+use Rattle.js_tree.proofs.RowPairs.{Keeps, expr_keeps, function_keeps, key_keeps, pattern_keeps, pattern_property_keeps, property_keeps, stmt_keeps, slot_keeps, tail_keeps, body_keeps, cases_keeps, handler_keeps}
 
 pub map_again : {A B C : Type 0} (g : B → C) (f : A → B) (xs : List A) → map (λ x. g (f x)) xs ≡ map g (map f xs)
 map_again g f [] = refl
@@ -77,23 +79,34 @@ is_body : (body : List Stmt) → height (ABody body) ≡ suc (each_of above_stmt
 unfolding height
 is_body body = refl
 
--- rows without the tails of chains
+is_cases : (xs : List (Case Expr Stmt)) → height (ACases xs) ≡ suc (each_of (case_row unmarked above_expr above_stmt) xs 0)
+unfolding height
+is_cases xs = refl
+
+is_handler : (x : Handler Pattern Stmt) → height (AHandler x) ≡ suc (handler_row unmarked above_pattern above_stmt x 0)
+unfolding height
+is_handler x = refl
+
+-- rows without the nodes that are made up for several
 abbrev plain : NodeWriter ℕ
 plain = record {
   marks = unmarked;
   expr = above_expr;
   function = λ x h. max (fold_function heights x) h;
   key = λ x h. max (fold_key heights x) h;
-  pattern = λ x h. max (fold_pattern heights x) h;
+  pattern = above_pattern;
   pattern_property = λ x h. max (fold_pattern_property heights x) h;
   property = λ x h. max (fold_property heights x) h;
   stmt = above_stmt;
   slot = λ x h. max (fold_slot heights x) h;
   tails = λ head ts h. h;
+  body = λ xs h. h;
+  cases = λ xs h. h;
+  handler = λ x h. h;
 }
 
 abbrev plain_nodes : NodeWriter (List Node)
-plain_nodes = record nodes { tails = λ head ts ns. ns }
+plain_nodes = record nodes { tails = λ head ts ns. ns; body = λ xs ns. ns; cases = λ xs ns. ns; handler = λ x ns. ns }
 
 plain_keeps : Keeps plain plain_nodes Any (λ h ns. highest ns ≤ h)
 plain_keeps = record {
@@ -109,6 +122,9 @@ plain_keeps = record {
   stmt = λ x r s h e. (let a = is_stmt x in omega (arith, a, e));
   slot = λ x r s h e. (let a = is_slot x in omega (arith, a, e));
   tails = λ head ts ns r s h k. k (all_any ns);
+  body = λ xs r s h e. e;
+  cases = λ xs r s h e. e;
+  handler = λ x r s h e. e;
 }
 
 module _ (m : ℕ) where
@@ -129,10 +145,22 @@ module _ (m : ℕ) where
     stmt = λ x r s h e. (let a = e.0 in let b = e.1 in (omega (arith, a), omega (arith, b)));
     slot = λ x r s h e. (let a = e.0 in let b = e.1 in (omega (arith, a), omega (arith, b)));
     tails = λ head ts ns r s h k. k (all_any ns);
+    body = λ xs r s h e. e;
+    cases = λ xs r s h e. e;
+    handler = λ x r s h e. e;
   }
 
   grown : (t : Tail Expr) → Grows (tail_row unmarked above_expr t 0) (tail_row unmarked above_expr t m)
   grown t = tail_keeps plain plain Any Grows grows t 0 m (all_any (tail_row unmarked nodes.expr t [])) (omega arith, omega arith)
+
+  grown_body : (xs : List Stmt) → Grows (each_of above_stmt xs 0) (each_of above_stmt xs m)
+  grown_body xs = body_keeps plain plain Any Grows grows xs 0 m (all_any (each_of nodes.stmt xs [])) (omega arith, omega arith)
+
+  grown_cases : (xs : List (Case Expr Stmt)) → Grows (each_of (case_row unmarked above_expr above_stmt) xs 0) (each_of (case_row unmarked above_expr above_stmt) xs m)
+  grown_cases xs = cases_keeps plain plain Any Grows grows xs 0 m (all_any (each_of (case_row unmarked nodes.expr nodes.stmt) xs [])) (omega arith, omega arith)
+
+  grown_handler : (x : Handler Pattern Stmt) → Grows (handler_row unmarked above_pattern above_stmt x 0) (handler_row unmarked above_pattern above_stmt x m)
+  grown_handler x = handler_keeps plain plain Any Grows grows x 0 m (all_any (handler_row unmarked nodes.pattern nodes.stmt x [])) (omega arith, omega arith)
 
 tails_above : (head : Expr) (before ts : List (Tail Expr)) (r : ℕ) (s : List Node) → highest s ≤ suc r → highest (tails_behind head before ts s) ≤ suc (each_of (tail_row unmarked above_expr) ts r)
 tails_above head before [] r s e = e
@@ -146,6 +174,17 @@ tails_above head before (t ∷ ts) r s e =
 
 abbrev above : NodeWriter ℕ
 above = over greatest (fold_views heights)
+
+body_above : (xs : List Stmt) (r : ℕ) (s : List Node) → highest s ≤ suc r → highest (ABody xs ∷ s) ≤ suc (above.body xs r)
+body_above xs r s e = let a = is_body xs in let b = (grown_body r xs).0 in let c = (grown_body r xs).1 in let d = each_map max (fold_stmt heights) xs r in omega (arith, a, b, c, d, e)
+
+cases_above : (xs : List (Case Expr Stmt)) (r : ℕ) (s : List Node) → highest s ≤ suc r → highest (ACases xs ∷ s) ≤ suc (above.cases xs r)
+cases_above xs r s e =
+    let a = is_cases xs in let b = (grown_cases r xs).0 in let c = (grown_cases r xs).1 in let d = cases_map unmarked max max (fold_expr heights) (fold_stmt heights) xs r in omega (arith, a, b, c, d, e)
+
+handler_above : (x : Handler Pattern Stmt) (r : ℕ) (s : List Node) → highest s ≤ suc r → highest (AHandler x ∷ s) ≤ suc (above.handler x r)
+handler_above x r s e =
+    let a = is_handler x in let b = (grown_handler r x).0 in let c = (grown_handler r x).1 in let d = handler_map unmarked max max (fold_pattern heights) (fold_stmt heights) x r in omega (arith, a, b, c, d, e)
 
 -- the nodes in a row are no higher than it, with room for one between them
 above_keeps : Keeps above nodes Any (λ h ns. highest ns ≤ suc h)
@@ -162,6 +201,9 @@ above_keeps = record {
   stmt = λ x r s h e. (let a = is_stmt x in omega (arith, a, e));
   slot = λ x r s h e. (let a = is_slot x in omega (arith, a, e));
   tails = λ head ts ns r s h k. (let a = tails_above head [] ts r s (k (all_any ns)) in let b = tails_map unmarked max (fold_expr heights) ts r in omega (arith, a, b));
+  body = λ xs r s h e. body_above xs r s e;
+  cases = λ xs r s h e. cases_above xs r s e;
+  handler = λ x r s h e. handler_above x r s e;
 }
 
 none_high : highest [] ≤ 1
@@ -216,6 +258,14 @@ parts_below (ATail head before t) =
 parts_below (ABody body) =
     let a = body_keeps plain plain_nodes Any (λ h ns. highest ns ≤ h) plain_keeps body 0 [] (all_any (parts (ABody body))) (omega arith) in
     let b = is_body body in
+    omega (arith, a, b)
+parts_below (ACases xs) =
+    let a = cases_keeps plain plain_nodes Any (λ h ns. highest ns ≤ h) plain_keeps xs 0 [] (all_any (parts (ACases xs))) (omega arith) in
+    let b = is_cases xs in
+    omega (arith, a, b)
+parts_below (AHandler x) =
+    let a = handler_keeps plain plain_nodes Any (λ h ns. highest ns ≤ h) plain_keeps x 0 [] (all_any (parts (AHandler x))) (omega arith) in
+    let b = is_handler x in
     omega (arith, a, b)
 
 -- FOLDS

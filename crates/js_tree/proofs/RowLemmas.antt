@@ -30,7 +30,7 @@ use Rattle.js_tree.specs.Spelling.Properties.{key_row, property_row}
 use Rattle.js_tree.specs.Spelling.Rows.{Marks, WriterOf, mark, may_mark, each_of, maybe, further_row, listed_row, bracket_row, element_row, round_row, item_row, array_row, arrow_params_row, template_head, template_mark, template_parts, template_row, tail_row, arm_row, init_row, block_row, enclosed_row, guarded_row, for_start_row, case_word, case_row, handler_row}
 use Rattle.js_tree.specs.Spelling.Statements.{stmt_row}
 use Rattle.js_tree.specs.TokenKinds.{is}
-use Rattle.js_tree.proofs.Folds.{map_maybe, map_further, map_listed, map_element, map_bracket, map_round, map_array, map_params, map_template, map_tail, map_arm, map_init, map_block, map_enclosed, map_guarded, map_for_start, map_case, map_handler, layer-Array, layer-Object, layer-ArrayPattern, layer-ObjectPattern, layer-Chain, layer-New, layer-Keyword, layer-Arrow, layer-ArrowBlock, layer-If, layer-For, layer-Return, layer-Switch, layer-Try, layer-Slot}
+use Rattle.js_tree.proofs.Folds.{map_maybe, map_further, map_listed, map_element, map_bracket, map_round, map_array, map_params, map_template, map_tail, map_arm, map_init, map_enclosed, map_guarded, map_for_start, map_case, map_handler, layer-Array, layer-Object, layer-ArrayPattern, layer-ObjectPattern, layer-Chain, layer-New, layer-Keyword, layer-Arrow, layer-ArrowBlock, layer-If, layer-For, layer-Return, layer-Switch, layer-Try, layer-Slot}
 
 -- the next tail of a chain
 pub drop_next : {X : Type 0} (xs : List X) (i : ℕ) (d : X) → i < length xs → drop i xs ≡ get_or xs i d ∷ drop (i + 1) xs
@@ -115,9 +115,6 @@ module _ {X Y R : Type 0} (m : Marks R) (put : Y → R → R) (f : X → Y) wher
   pub tails_map : (ts : List (Tail X)) (rest : R) → each_of (tail_row m put) (map (map_tail f) ts) rest ≡ each_of (tail_row m (λ x. put (f x))) ts rest
   tails_map = each_over (tail_row m put) (tail_row m (λ x. put (f x))) (map_tail f) tail_map
 
-  pub block_map : (b : Block X) (rest : R) → block_row m put (map_block f b) rest ≡ block_row m (λ x. put (f x)) b rest
-  block_map b rest = ap (mark m kind.LeftBrace b.begin) (each_map put f b.body (mark m kind.RightBrace b.end rest))
-
 word_map : {X Y : Type 0} (f : X → Y) (o : Option X) → case_word (map_maybe f o) ≡ case_word o
 word_map f None = refl
 word_map f (Some x) = refl
@@ -131,6 +128,9 @@ module _ {X Y U V R : Type 0} (m : Marks R) (put : Y → R → R) (also : V → 
   case_map x rest =
       let behind = maybe_map put f x.test (mark m kind.Colon x.colon (each_of also (map g x.body) rest)) ∙ ap (λ r. maybe (λ x. put (f x)) x.test (mark m kind.Colon x.colon r)) (each_map also g x.body rest) in
       λ i. m.token (word_map f x.test i) x.word (behind i)
+
+  pub cases_map : (xs : List (Case X U)) (rest : R) → each_of (case_row m put also) (map (map_case f g) xs) rest ≡ each_of (case_row m (λ x. put (f x)) (λ x. also (g x))) xs rest
+  cases_map = each_over (case_row m put also) (case_row m (λ x. put (f x)) (λ x. also (g x))) (map_case f g) case_map
 
   pub handler_map : (x : Handler X U) (rest : R) → handler_row m put also (map_handler f g x) rest ≡ handler_row m (λ x. put (f x)) (λ x. also (g x)) x rest
   handler_map x rest = ap (mark m kind.Catch x.word) (maybe_map (enclosed_row m put) (map_enclosed f) x.target (also (g x.body) rest))
@@ -149,6 +149,9 @@ module _ {A R : Type 0} (w : WriterOf A R) (v : Views A) where
     stmt = λ x. w.stmt (v.stmt x);
     slot = λ x. w.slot (v.slot x);
     tails = λ head ts. w.tails (v.expr head) (map (map_tail v.expr) ts);
+    body = λ xs. w.body (map v.stmt xs);
+    cases = λ xs. w.cases (map (map_case v.expr v.stmt) xs);
+    handler = λ x. w.handler (map_handler v.pattern v.stmt x);
   }
 
   pub expr_over : (x : ExprLayer) (rest : R) → expr_row w (seen_expr v x) rest ≡ expr_row over x rest
@@ -169,15 +172,13 @@ module _ {A R : Type 0} (w : WriterOf A R) (v : Views A) where
   function_over (Function-F.Keyword word name params body) rest =
       ap (λ (l : FunctionOf A). function_row w l rest) (layer-Keyword v word name params body)
       ∙ ap (λ r. mark w.marks kind.Function word (may_mark w.marks kind.Name name r))
-      (round_map w.marks w.slot v.slot params (block_row w.marks w.stmt (map_block v.stmt body) rest)
-      ∙ ap (round_row w.marks (λ x. w.slot (v.slot x)) params) (block_map w.marks w.stmt v.stmt body rest))
+      (round_map w.marks w.slot v.slot params (block_row w.marks over.body body rest))
   function_over (Function-F.Arrow ps arrow value) rest =
       ap (λ (l : FunctionOf A). function_row w l rest) (layer-Arrow v ps arrow value)
       ∙ params_map w.marks w.slot v.slot ps (w.marks.ahead on_line (mark w.marks kind.Arrow arrow (w.marks.ahead begins_value (w.expr (v.expr value) rest))))
   function_over (Function-F.ArrowBlock ps arrow body) rest =
       ap (λ (l : FunctionOf A). function_row w l rest) (layer-ArrowBlock v ps arrow body)
-      ∙ params_map w.marks w.slot v.slot ps (w.marks.ahead on_line (mark w.marks kind.Arrow arrow (block_row w.marks w.stmt (map_block v.stmt body) rest)))
-      ∙ ap (λ r. arrow_params_row w.marks (λ x. w.slot (v.slot x)) ps (w.marks.ahead on_line (mark w.marks kind.Arrow arrow r))) (block_map w.marks w.stmt v.stmt body rest)
+      ∙ params_map w.marks w.slot v.slot ps (w.marks.ahead on_line (mark w.marks kind.Arrow arrow (block_row w.marks over.body body rest)))
 
   pub key_over : (x : KeyLayer) (rest : R) → key_row w (seen_key v x) rest ≡ key_row over x rest
   key_over (Key-F.Fixed t) rest = refl
@@ -200,7 +201,7 @@ module _ {A R : Type 0} (w : WriterOf A R) (v : Views A) where
   property_over (Property-F.Spread dots value) rest = refl
 
   pub stmt_over : (x : StmtLayer) (rest : R) → stmt_row w (seen_stmt v x) rest ≡ stmt_row over x rest
-  stmt_over (Stmt-F.«Stmt::Block» block) rest = block_map w.marks w.stmt v.stmt block rest
+  stmt_over (Stmt-F.«Stmt::Block» block) rest = refl
   stmt_over (Stmt-F.Vars word first others semi) rest =
       ap (λ r. w.marks.token is_declarator word (w.slot (v.slot first) r)) (each_map (further_row w.marks w.slot (is kind.Comma)) (map_further v.slot) others (may_mark w.marks kind.Semicolon semi rest))
   stmt_over (Stmt-F.Empty semi) rest = refl
@@ -233,14 +234,11 @@ module _ {A R : Type 0} (w : WriterOf A R) (v : Views A) where
   stmt_over (Stmt-F.Throw word value semi) rest = refl
   stmt_over (Stmt-F.Switch word value begin cases end) rest =
       ap (λ (l : StmtOf A). stmt_row w l rest) (layer-Switch v word value begin cases end)
-      ∙ ap (λ r. mark w.marks kind.Switch word (enclosed_row w.marks over.expr value (mark w.marks kind.LeftBrace begin r)))
-      (each_over (case_row w.marks w.expr w.stmt) (case_row w.marks over.expr over.stmt) (map_case v.expr v.stmt) (case_map w.marks w.expr w.stmt v.expr v.stmt) cases (mark w.marks kind.RightBrace end rest))
   stmt_over (Stmt-F.Try word body handler last) rest =
       ap (λ (l : StmtOf A). stmt_row w l rest) (layer-Try v word body handler last)
       ∙ ap (λ r. mark w.marks kind.Try word (w.stmt (v.stmt body) r))
-      (maybe_over (handler_row w.marks w.pattern w.stmt) (handler_row w.marks over.pattern over.stmt) (map_handler v.pattern v.stmt) (handler_map w.marks w.pattern w.stmt v.pattern v.stmt) handler
-      (maybe (further_row w.marks w.stmt (is kind.Finally)) (map_maybe (map_further v.stmt) last) rest)
-      ∙ ap (maybe (handler_row w.marks over.pattern over.stmt) handler) (maybe_map (further_row w.marks w.stmt (is kind.Finally)) (map_further v.stmt) last rest))
+      (maybe_map w.handler (map_handler v.pattern v.stmt) handler (maybe (further_row w.marks w.stmt (is kind.Finally)) (map_maybe (map_further v.stmt) last) rest)
+      ∙ ap (maybe over.handler handler) (maybe_map (further_row w.marks w.stmt (is kind.Finally)) (map_further v.stmt) last rest))
   stmt_over (Stmt-F.Label name colon body) rest = refl
   stmt_over (Stmt-F.Debugger word semi) rest = refl
   stmt_over (Stmt-F.«Stmt::Fun» function) rest = refl

@@ -35,7 +35,7 @@ use Rattle.js_tree.specs.declared.tree.Slot.{Slot}
 use Rattle.js_tree.specs.declared.tree.Stmt.{Stmt}
 use Rattle.js_tree.specs.Folds.{ExprLayer, FunctionLayer, KeyLayer, PatternLayer, PatternPropertyLayer, PropertyLayer, StmtLayer, SlotLayer}
 use Rattle.js_tree.specs.Operators.{begins_plain, begins_value, is_assignment, is_binary, is_declarator, is_jump, is_key, is_literal, is_member_name, is_unary, is_update, on_line}
-use Rattle.js_tree.specs.Parts.{Node, AnExpr, AFunction, AKey, APattern, APatternProperty, AProperty, AStmt, ASlot, NodeWriter, nodes, tails_behind}
+use Rattle.js_tree.specs.Parts.{Node, AnExpr, AFunction, AKey, APattern, APatternProperty, AProperty, AStmt, ASlot, ABody, ACases, AHandler, NodeWriter, nodes, tails_behind}
 use Rattle.js_tree.specs.Spelling.Expressions.{expr_row}
 use Rattle.js_tree.specs.Spelling.Functions.{function_row}
 use Rattle.js_tree.specs.Spelling.Patterns.{pattern_row, pattern_property_row, slot_row}
@@ -59,6 +59,9 @@ pub record Keeps {R S : Type 0} (v : NodeWriter R) (w : NodeWriter S) (H : Node 
   pub stmt : (x : Stmt) (r : R) (s : S) → H (AStmt x) → Rel r s → Rel (v.stmt x r) (w.stmt x s)
   pub slot : (x : Slot) (r : R) (s : S) → H (ASlot x) → Rel r s → Rel (v.slot x r) (w.slot x s)
   pub tails : (head : Expr) (ts : List (Tail Expr)) (ns : List Node) (r : R) (s : S) → AllByRecursion H (tails_behind head [] ts ns) → (AllByRecursion H ns → Rel r s) → Rel (v.tails head ts r) (w.tails head ts s)
+  pub body : (xs : List Stmt) (r : R) (s : S) → H (ABody xs) → Rel r s → Rel (v.body xs r) (w.body xs s)
+  pub cases : (xs : List (Case Expr Stmt)) (r : R) (s : S) → H (ACases xs) → Rel r s → Rel (v.cases xs r) (w.cases xs s)
+  pub handler : (x : Handler Pattern Stmt) (r : R) (s : S) → H (AHandler x) → Rel r s → Rel (v.handler x r) (w.handler x s)
 
 -- the relation, where H holds of these nodes
 pub record Goes {R S : Type 0} (H : Node → Type 0) (Rel : R → S → Type 0) (ns : List Node) (r : R) (s : S) : Type 0 where
@@ -111,6 +114,15 @@ module _ {R S : Type 0} (v : NodeWriter R) (w : NodeWriter S) (H : Node → Type
   tails : {ns : List Node} {r : R} {s : S} (head : Expr) (ts : List (Tail Expr)) → G ns r s → G (tails_behind head [] ts ns) (v.tails head ts r) (w.tails head ts s)
   tails {ns} {r} {s} head ts g = record { by = λ h. keeps.tails head ts ns r s h g.by }
 
+  body : {ns : List Node} {r : R} {s : S} (xs : List Stmt) → G ns r s → G (ABody xs ∷ ns) (v.body xs r) (w.body xs s)
+  body {ns} {r} {s} xs g = record { by = λ h. keeps.body xs r s h.0 (g.by h.1) }
+
+  cases : {ns : List Node} {r : R} {s : S} (xs : List (Case Expr Stmt)) → G ns r s → G (ACases xs ∷ ns) (v.cases xs r) (w.cases xs s)
+  cases {ns} {r} {s} xs g = record { by = λ h. keeps.cases xs r s h.0 (g.by h.1) }
+
+  handler : {ns : List Node} {r : R} {s : S} (x : Handler Pattern Stmt) → G ns r s → G (AHandler x ∷ ns) (v.handler x r) (w.handler x s)
+  handler {ns} {r} {s} x g = record { by = λ h. keeps.handler x r s h.0 (g.by h.1) }
+
   token_maybe : {ns : List Node} {r : R} {s : S} (k : TokenKind) (o : Option Token) → G ns r s → G ns (may_mark v.marks k o r) (may_mark w.marks k o s)
   token_maybe {ns} {r} {s} k o g = record { by = λ h. keeps.option (is k) o r s (g.by h) }
 
@@ -130,6 +142,9 @@ module _ {R S : Type 0} (v : NodeWriter R) (w : NodeWriter S) (H : Node → Type
 
   abbrev patterns : I Pattern
   patterns = record { put = nodes.pattern; one = v.pattern; two = w.pattern; goes = λ x ns r s g. pattern x g }
+
+  abbrev handlers : I (Handler Pattern Stmt)
+  handlers = record { put = nodes.handler; one = v.handler; two = w.handler; goes = λ x ns r s g. handler x g }
 
   abbrev properties : I Property
   properties = record { put = nodes.property; one = v.property; two = w.property; goes = λ x ns r s g. property x g }
@@ -221,9 +236,6 @@ module _ {R S : Type 0} (v : NodeWriter R) (w : NodeWriter S) (H : Node → Type
     template : {ns : List Node} {r : R} {s : S} (t : Template X) → G ns r s → G (template_row unm i.put t ns) (template_row v.marks i.one t r) (template_row w.marks i.two t s)
     template t g = token (template_head t.parts) t.head (substitutions t.parts g)
 
-    block : {ns : List Node} {r : R} {s : S} (b : Block X) → G ns r s → G (block_row unm i.put b ns) (block_row v.marks i.one b r) (block_row w.marks i.two b s)
-    block b g = token (is kind.LeftBrace) b.begin (each b.body (token (is kind.RightBrace) b.end g))
-
   module _ {X Y : Type 0} (i : I X) (j : I Y) where
     abbrev guarded : (test : TokenKind → Bool) → I (Guarded X Y)
     guarded test = record {
@@ -240,16 +252,16 @@ module _ {R S : Type 0} (v : NodeWriter R) (w : NodeWriter S) (H : Node → Type
     abbrev starts : I (ForStart X Y)
     starts = record { put = for_start_row unm i.put j.put; one = for_start_row v.marks i.one j.one; two = for_start_row w.marks i.two j.two; goes = λ x ns r s g. one_start x g }
 
-    abbrev cases : I (Case X Y)
-    cases = record {
+    abbrev each_case : I (Case X Y)
+    each_case = record {
       put = case_row unm i.put j.put;
       one = case_row v.marks i.one j.one;
       two = case_row w.marks i.two j.two;
       goes = λ x ns r s g. token (case_word x.test) x.word (perhaps i x.test (token (is kind.Colon) x.colon (each j x.body g)));
     }
 
-    abbrev handlers : I (Handler X Y)
-    handlers = record {
+    abbrev caught : I (Handler X Y)
+    caught = record {
       put = handler_row unm i.put j.put;
       one = handler_row v.marks i.one j.one;
       two = handler_row w.marks i.two j.two;
@@ -277,6 +289,9 @@ module _ {R S : Type 0} (v : NodeWriter R) (w : NodeWriter S) (H : Node → Type
     one_tail (tail.Call b) g = round b g
     one_tail (tail.Template t) g = template i t g
 
+  block : {ns : List Node} {r : R} {s : S} (b : Block Stmt) → G ns r s → G (block_row unm nodes.body b ns) (block_row v.marks v.body b r) (block_row w.marks w.body b s)
+  block b g = token (is kind.LeftBrace) b.begin (body b.body (token (is kind.RightBrace) b.end g))
+
   -- KINDS OF NODES
 
   goes_expr : {ns : List Node} {r : R} {s : S} (x : ExprLayer) → G ns r s → G (expr_row nodes x ns) (expr_row v x r) (expr_row w x s)
@@ -300,9 +315,9 @@ module _ {R S : Type 0} (v : NodeWriter R) (w : NodeWriter S) (H : Node → Type
   goes_expr (Expr-F.Comma first others) g = expr first (each (further exprs (is kind.Comma)) others g)
 
   goes_function : {ns : List Node} {r : R} {s : S} (x : FunctionLayer) → G ns r s → G (function_row nodes x ns) (function_row v x r) (function_row w x s)
-  goes_function (Function-F.Keyword word name ps body) g = token (is kind.Function) word (token_maybe kind.Name name (round slots ps (block stmts body g)))
+  goes_function (Function-F.Keyword word name ps braces) g = token (is kind.Function) word (token_maybe kind.Name name (round slots ps (block braces g)))
   goes_function (Function-F.Arrow ps arrow value) g = arrow_params slots ps (ahead on_line (token (is kind.Arrow) arrow (ahead begins_value (expr value g))))
-  goes_function (Function-F.ArrowBlock ps arrow body) g = arrow_params slots ps (ahead on_line (token (is kind.Arrow) arrow (block stmts body g)))
+  goes_function (Function-F.ArrowBlock ps arrow braces) g = arrow_params slots ps (ahead on_line (token (is kind.Arrow) arrow (block braces g)))
 
   goes_key : {ns : List Node} {r : R} {s : S} (x : KeyLayer) → G ns r s → G (key_row nodes x ns) (key_row v x r) (key_row w x s)
   goes_key (Key-F.Fixed t) g = token is_key t g
@@ -326,30 +341,30 @@ module _ {R S : Type 0} (v : NodeWriter R) (w : NodeWriter S) (H : Node → Type
   goes_property (Property-F.Spread dots value) g = token (is kind.Dots) dots (expr value g)
 
   goes_stmt : {ns : List Node} {r : R} {s : S} (x : StmtLayer) → G ns r s → G (stmt_row nodes x ns) (stmt_row v x r) (stmt_row w x s)
-  goes_stmt (Stmt-F.«Stmt::Block» b) g = block stmts b g
+  goes_stmt (Stmt-F.«Stmt::Block» b) g = block b g
   goes_stmt (Stmt-F.Vars word first others semi) g = token is_declarator word (slot first (each (further slots (is kind.Comma)) others (token_maybe kind.Semicolon semi g)))
   goes_stmt (Stmt-F.Empty semi) g = token (is kind.Semicolon) semi g
   goes_stmt (Stmt-F.Plain value semi) g = ahead begins_plain (expr value (token_maybe kind.Semicolon semi g))
   goes_stmt (Stmt-F.If first others last) g =
       let tests = guarded exprs stmts (is kind.If) in
       tests.goes first _ _ _ (each (further tests (is kind.Else)) others (perhaps (further stmts (is kind.Else)) last g))
-  goes_stmt (Stmt-F.Do word body again test semi) g = token (is kind.Do) word (stmt body (token (is kind.While) again ((enclosed exprs).goes test _ _ _ (token_maybe kind.Semicolon semi g))))
+  goes_stmt (Stmt-F.Do word inner again test semi) g = token (is kind.Do) word (stmt inner (token (is kind.While) again ((enclosed exprs).goes test _ _ _ (token_maybe kind.Semicolon semi g))))
   goes_stmt (Stmt-F.While x) g = (guarded exprs stmts (is kind.While)).goes x _ _ _ g
-  goes_stmt (Stmt-F.For word begin o first test second step end body) g =
+  goes_stmt (Stmt-F.For word begin o first test second step end inner) g =
       token (is kind.For) word (token (is kind.LeftParen) begin (perhaps (starts exprs slots) o
       (token (is kind.Semicolon) first (perhaps exprs test
-      (token (is kind.Semicolon) second (perhaps exprs step (token (is kind.RightParen) end (stmt body g))))))))
-  goes_stmt (Stmt-F.ForIn word begin l sign value end body) g =
-      token (is kind.For) word (token (is kind.LeftParen) begin (one_left patterns l (token (is kind.In) sign (expr value (token (is kind.RightParen) end (stmt body g))))))
-  goes_stmt (Stmt-F.ForOf word begin l sign value end body) g =
-      token (is kind.For) word (token (is kind.LeftParen) begin (one_left patterns l (token (is kind.Name) sign (expr value (token (is kind.RightParen) end (stmt body g))))))
+      (token (is kind.Semicolon) second (perhaps exprs step (token (is kind.RightParen) end (stmt inner g))))))))
+  goes_stmt (Stmt-F.ForIn word begin l sign value end inner) g =
+      token (is kind.For) word (token (is kind.LeftParen) begin (one_left patterns l (token (is kind.In) sign (expr value (token (is kind.RightParen) end (stmt inner g))))))
+  goes_stmt (Stmt-F.ForOf word begin l sign value end inner) g =
+      token (is kind.For) word (token (is kind.LeftParen) begin (one_left patterns l (token (is kind.Name) sign (expr value (token (is kind.RightParen) end (stmt inner g))))))
   goes_stmt (Stmt-F.Jump word label semi) g = token is_jump word (perhaps labels label (token_maybe kind.Semicolon semi g))
   goes_stmt (Stmt-F.Return word value semi) g = token (is kind.Return) word (perhaps values value (token_maybe kind.Semicolon semi g))
   goes_stmt (Stmt-F.Throw word value semi) g = token (is kind.Throw) word (ahead on_line (expr value (token_maybe kind.Semicolon semi g)))
   goes_stmt (Stmt-F.Switch word value begin xs end) g =
-      token (is kind.Switch) word ((enclosed exprs).goes value _ _ _ (token (is kind.LeftBrace) begin (each (cases exprs stmts) xs (token (is kind.RightBrace) end g))))
-  goes_stmt (Stmt-F.Try word body handler last) g = token (is kind.Try) word (stmt body (perhaps (handlers patterns stmts) handler (perhaps (further stmts (is kind.Finally)) last g)))
-  goes_stmt (Stmt-F.Label name colon body) g = token (is kind.Name) name (token (is kind.Colon) colon (stmt body g))
+      token (is kind.Switch) word ((enclosed exprs).goes value _ _ _ (token (is kind.LeftBrace) begin (cases xs (token (is kind.RightBrace) end g))))
+  goes_stmt (Stmt-F.Try word tried o last) g = token (is kind.Try) word (stmt tried (perhaps handlers o (perhaps (further stmts (is kind.Finally)) last g)))
+  goes_stmt (Stmt-F.Label name colon inner) g = token (is kind.Name) name (token (is kind.Colon) colon (stmt inner g))
   goes_stmt (Stmt-F.Debugger word semi) g = token (is kind.Debugger) word (token_maybe kind.Semicolon semi g)
   goes_stmt (Stmt-F.«Stmt::Fun» f) g = function f g
 
@@ -389,6 +404,14 @@ module _ {R S : Type 0} (v : NodeWriter R) (w : NodeWriter S) (H : Node → Type
 
   pub body_keeps : (xs : List Stmt) (r : R) (s : S) → AllByRecursion H (each_of nodes.stmt xs []) → Rel r s → Rel (each_of v.stmt xs r) (each_of w.stmt xs s)
   body_keeps xs r s h e = (each stmts xs (stays r s e)).by h
+
+  pub cases_keeps : (xs : List (Case Expr Stmt)) (r : R) (s : S) → AllByRecursion H (each_of (case_row unm nodes.expr nodes.stmt) xs []) → Rel r s
+      → Rel (each_of (case_row v.marks v.expr v.stmt) xs r) (each_of (case_row w.marks w.expr w.stmt) xs s)
+  cases_keeps xs r s h e = (each (each_case exprs stmts) xs (stays r s e)).by h
+
+  pub handler_keeps : (x : Handler Pattern Stmt) (r : R) (s : S) → AllByRecursion H (handler_row unm nodes.pattern nodes.stmt x []) → Rel r s
+      → Rel (handler_row v.marks v.pattern v.stmt x r) (handler_row w.marks w.pattern w.stmt x s)
+  handler_keeps x r s h e = ((caught patterns stmts).goes x _ _ _ (stays r s e)).by h
 
   pub arguments_keeps : (o : Bracket (Element Expr)) (r : R) (s : S) → AllByRecursion H (round_row unm nodes.expr o []) → Rel r s → Rel (round_row v.marks v.expr o r) (round_row w.marks w.expr o s)
   arguments_keeps o r s h e = (round exprs o (stays r s e)).by h

@@ -24,7 +24,7 @@ use Rattle.js_tree.specs.Lexical.Name as name
 use Rattle.js_tree.specs.Lexical.Regex as regex
 use Rattle.js_tree.specs.Lexing.{Place, start_of}
 use Rattle.js_tree.specs.Line.{LineItem, ANode, items, possible, line_of}
-use Rattle.js_tree.specs.Parts.{Node, NodeWriter, AnExpr, AFunction, AKey, APattern, APatternProperty, AProperty, AStmt, ASlot, ATail, ABody, each_tail, parts, tails_behind}
+use Rattle.js_tree.specs.Parts.{Node, NodeWriter, AnExpr, AFunction, AKey, APattern, APatternProperty, AProperty, AStmt, ASlot, ATail, ABody, ACases, AHandler, each_tail, parts, tails_behind}
 use Rattle.js_tree.specs.Spelling.{tokens_of}
 use Rattle.js_tree.specs.Spelling.Expressions.{expr_row}
 use Rattle.js_tree.specs.Spelling.Functions.{function_row}
@@ -251,6 +251,9 @@ some_part = record {
   stmt = λ x b. b;
   slot = λ x b. b;
   tails = λ head ts b. b;
+  body = λ xs b. b;
+  cases = λ xs b. b;
+  handler = λ x b. b;
 }
 
 arms_some : (arms : List (Arm Expr)) → each_of (arm_row some_part.marks some_part.expr) arms true ≡ true
@@ -314,6 +317,9 @@ has_some = record {
   stmt = λ x r s h e. also_has (AStmt x) r s e;
   slot = λ x r s h e. also_has (ASlot x) r s e;
   tails = λ head ts ns r s h k. tails_have head [] ts ns r s h k;
+  body = λ xs r s h e. also_has (ABody xs) r s e;
+  cases = λ xs r s h e. also_has (ACases xs) r s e;
+  handler = λ x r s h e. also_has (AHandler x) r s e;
 }
 
 none_has : Has false []
@@ -333,6 +339,8 @@ begins_by (AStmt x) each = tt
 begins_by (ASlot x) each = tt
 begins_by (ATail head before t) each = tt
 begins_by (ABody body) each = tt
+begins_by (ACases xs) each = tt
+begins_by (AHandler x) each = tt
 
 pub some_token : (x : Expr) → 0 < length (tokens_in (AnExpr x))
 some_token x = along_parts Begins begins_by (AnExpr x)

@@ -8,19 +8,19 @@ use Rattle.js_tree.specs.declared.token.Token.{Token}
 use Rattle.js_tree.specs.declared.tree.Expr.{Expr, out-Expr}
 use Rattle.js_tree.specs.declared.tree.Function.{out-Function}
 use Rattle.js_tree.specs.declared.tree.Key.{out-Key}
-use Rattle.js_tree.specs.declared.tree.Pattern.{out-Pattern}
+use Rattle.js_tree.specs.declared.tree.Pattern.{Pattern, out-Pattern}
 use Rattle.js_tree.specs.declared.tree.PatternProperty.{out-PatternProperty}
 use Rattle.js_tree.specs.declared.tree.Property.{out-Property}
 use Rattle.js_tree.specs.declared.tree.Slot.{out-Slot}
 use Rattle.js_tree.specs.declared.tree.Stmt.{out-Stmt}
-use Rattle.js_tree.specs.Parts.{Node, AnExpr, AFunction, AKey, APattern, APatternProperty, AProperty, AStmt, ASlot, ATail, ABody, NodeWriter, node_of, count, each_tail}
+use Rattle.js_tree.specs.Parts.{Node, AnExpr, AFunction, AKey, APattern, APatternProperty, AProperty, AStmt, ASlot, ATail, ABody, ACases, AHandler, NodeWriter, node_of, count, each_tail}
 use Rattle.js_tree.specs.Pieces.{Onto, tokens}
-use Rattle.js_tree.specs.Spelling.{expr, function, key, pattern, pattern_property, property, stmt, slot, stmts}
+use Rattle.js_tree.specs.Spelling.{expr, function, key, pattern, pattern_property, property, stmt, slot, stmt_line, stmts}
 use Rattle.js_tree.specs.Spelling.Expressions.{expr_row}
 use Rattle.js_tree.specs.Spelling.Functions.{function_row}
 use Rattle.js_tree.specs.Spelling.Patterns.{pattern_row, pattern_property_row, slot_row}
 use Rattle.js_tree.specs.Spelling.Properties.{key_row, property_row}
-use Rattle.js_tree.specs.Spelling.Rows.{Marks, each_of, listed_row, maybe, tail_row}
+use Rattle.js_tree.specs.Spelling.Rows.{Marks, each_of, listed_row, maybe, tail_row, case_row, handler_row}
 use Rattle.js_tree.specs.Spelling.Nodes.{pieces}
 use Rattle.js_tree.specs.Spelling.Statements.{stmt_row}
 
@@ -59,6 +59,9 @@ items = record {
   stmt = λ x rest. ANode (AStmt x) ∷ rest;
   slot = λ x rest. ANode (ASlot x) ∷ rest;
   tails = λ head. tail_items head [];
+  body = λ xs rest. ANode (ABody xs) ∷ rest;
+  cases = λ xs rest. ANode (ACases xs) ∷ rest;
+  handler = λ x rest. ANode (AHandler x) ∷ rest;
 }
 
 -- items in brackets of any kind
@@ -77,14 +80,19 @@ line_row (AStmt x) = stmt_row items (out-Stmt x)
 line_row (ASlot x) = slot_row items (out-Slot x)
 line_row (ATail head before t) = tail_row given_marks items.expr t
 line_row (ABody body) = each_of items.stmt body
+line_row (ACases xs) = each_of (case_row given_marks items.expr items.stmt) xs
+line_row (AHandler x) = handler_row given_marks items.pattern items.stmt x
 
 -- the line of a node
 abbrev pub line_of : Node → List LineItem
 line_of n = line_row n []
 
--- the spelling of an expression as it stands in a tail
+-- the spelling of an expression as it stands in a tail or a case, and of a pattern
 abbrev pub expr_line : Expr → Onto
 expr_line x = (expr x).line
+
+abbrev pub pattern_line : Pattern → Onto
+pattern_line x = (pattern x).line
 
 -- the spelling of a node
 abbrev pub spelling_of : Node → Onto
@@ -98,6 +106,8 @@ spelling_of (AStmt x) = (stmt x).line
 spelling_of (ASlot x) = (slot x).line
 spelling_of (ATail head before t) = tail_row pieces expr_line t
 spelling_of (ABody body) = stmts body
+spelling_of (ACases xs) = each_of (case_row pieces expr_line stmt_line) xs
+spelling_of (AHandler x) = handler_row pieces pattern_line stmt_line x
 
 -- the tokens of a node
 unfoldable pub tokens_in : Node → List Token

@@ -1,6 +1,8 @@
 -- The parts of a node of any kind, in the order of the text, and what is gathered from a node and its parts.
 use Rattle.std.specs.Prelude.{ℕ, zero, suc, List, [], ◌∷◌, ◌++◌, map, max, sum, Option, Some, None}
 use Rattle.std.specs.List.{flat_map}
+use Rattle.js_tree.specs.declared.lists.Case.{Case}
+use Rattle.js_tree.specs.declared.lists.Handler.{Handler}
 use Rattle.js_tree.specs.declared.lists.Tail.{Tail}
 use Rattle.js_tree.specs.declared.node.Node.{Node as Given}
 use Rattle.js_tree.specs.declared.node.Node.TheVariants as given
@@ -17,12 +19,12 @@ use Rattle.js_tree.specs.Spelling.Expressions.{expr_row}
 use Rattle.js_tree.specs.Spelling.Functions.{function_row}
 use Rattle.js_tree.specs.Spelling.Patterns.{pattern_row, pattern_property_row, slot_row}
 use Rattle.js_tree.specs.Spelling.Properties.{key_row, property_row}
-use Rattle.js_tree.specs.Spelling.Rows.{Writer, WriterOf, each_of, tail_row}
+use Rattle.js_tree.specs.Spelling.Rows.{Writer, WriterOf, each_of, tail_row, case_row, handler_row}
 use Rattle.js_tree.specs.Spelling.Nodes.{unmarked, over_nodes}
 use Rattle.js_tree.specs.Spelling.Statements.{stmt_row}
 
--- a node of a tree: one of each type, a tail of a chain or of `new` with the head and the tails before it, and statements one
--- after another
+-- a node of a tree: one of each type, a tail of a chain or of `new` with the head and the tails before it, statements one
+-- after another, the cases of a `switch`, and what is done with an exception
 pub data Node : Type 0 where
   AnExpr : Expr → Node
   AFunction : Function → Node
@@ -34,6 +36,8 @@ pub data Node : Type 0 where
   ASlot : Slot → Node
   ATail : Expr → List (Tail Expr) → Tail Expr → Node
   ABody : List Stmt → Node
+  ACases : List (Case Expr Stmt) → Node
+  AHandler : Handler Pattern Stmt → Node
 
 -- the node that is given
 abbrev pub node_of : Given → Node
@@ -47,6 +51,8 @@ node_of (given.Stmt x) = AStmt x.now
 node_of (given.Slot x) = ASlot x.now
 node_of (given.Tail head before tail) = ATail head.now before.now tail.now
 node_of (given.Body x) = ABody x.now
+node_of (given.Cases x) = ACases x.now
+node_of (given.Handler x) = AHandler x.now
 
 -- the tails of a chain as nodes, each with the tails before it, in front of what follows
 abbrev pub each_tail : {R : Type 0} → (Node → R → R) → Expr → List (Tail Expr) → List (Tail Expr) → R → R
@@ -73,6 +79,9 @@ nodes = record {
   stmt = λ x rest. AStmt x ∷ rest;
   slot = λ x rest. ASlot x ∷ rest;
   tails = λ head. tails_behind head [];
+  body = λ xs rest. ABody xs ∷ rest;
+  cases = λ xs rest. ACases xs ∷ rest;
+  handler = λ x rest. AHandler x ∷ rest;
 }
 
 -- the parts of a node, in front of other nodes
@@ -87,6 +96,8 @@ parts_row (AStmt x) = stmt_row nodes (out-Stmt x)
 parts_row (ASlot x) = slot_row nodes (out-Slot x)
 parts_row (ATail head before t) = tail_row unmarked nodes.expr t
 parts_row (ABody body) = each_of nodes.stmt body
+parts_row (ACases xs) = each_of (case_row unmarked nodes.expr nodes.stmt) xs
+parts_row (AHandler x) = handler_row unmarked nodes.pattern nodes.stmt x
 
 -- the parts of a node
 abbrev pub parts : Node → List Node
@@ -109,9 +120,12 @@ heights = record {
   slot = λ x. suc (suc (slot_row greatest x 0));
 }
 
--- the greater of a height and that of an expression, or of a statement
+-- the greater of a height and that of an expression, of a pattern, or of a statement
 abbrev pub above_expr : Expr → ℕ → ℕ
 above_expr x h = max (fold_expr heights x) h
+
+abbrev pub above_pattern : Pattern → ℕ → ℕ
+above_pattern x h = max (fold_pattern heights x) h
 
 abbrev pub above_stmt : Stmt → ℕ → ℕ
 above_stmt x h = max (fold_stmt heights x) h
@@ -128,6 +142,8 @@ height (AStmt x) = fold_stmt heights x
 height (ASlot x) = fold_slot heights x
 height (ATail head before t) = suc (tail_row unmarked above_expr t 0)
 height (ABody body) = suc (each_of above_stmt body 0)
+height (ACases xs) = suc (each_of (case_row unmarked above_expr above_stmt) xs 0)
+height (AHandler x) = suc (handler_row unmarked above_pattern above_stmt x 0)
 
 -- what is made of a node by a step, from the node and what is made of its parts in their order; to this depth
 abbrev pub folded_to : {A : Type 0} → (Node → List A → A) → ℕ → Node → A

@@ -2,7 +2,7 @@
 ghost use Rattle.std.specs.Prelude.{◌≡◌, [], ◌∷◌, List, OnOk, true};
 ghost use Rattle.js_tree.specs.Adds.{Adds};
 ghost use Rattle.js_tree.specs.Line.{AToken, LineItem as GhostItem, given_marks, in_brackets, item_of, items, tail_items};
-ghost use Rattle.js_tree.specs.Spelling.Rows.{arm_row, arrow_params_row, block_row, case_row, each_of, element_row, enclosed_row, for_start_row, guarded_row, handler_row, init_row, left_row, listed_row, maybe, template_row};
+ghost use Rattle.js_tree.specs.Spelling.Rows.{arm_row, arrow_params_row, block_row, case_row, each_of, element_row, enclosed_row, for_start_row, guarded_row, init_row, left_row, listed_row, maybe, template_row};
 
 use crate::line::{LineItem, push_node, push_token};
 use crate::lists::{
@@ -211,12 +211,12 @@ impl<'t, X: InLine<'t>> InLine<'t> for ArrowParams<X> {
     }
 }
 
-impl<'t, X: InLine<'t>> InLine<'t> for Block<X> {
-    ghost put = { block_row given_marks X.put };
+impl<'t> InLine<'t> for Block<Stmt> {
+    ghost put = { block_row given_marks items.body };
 
     fn push_items(&'t self, out: &mut Vec<LineItem<'t>>) -> Result<(), OutOfMemory> {
         push_token(&self.begin, out)?;
-        push_each(self.body.as_slice(), out)?;
+        push_node(Node::Body(self.body.as_slice()), out)?;
         push_token(&self.end, out)
     }
 }
@@ -281,12 +281,10 @@ impl<'t, X: InLine<'t>, Y: InLine<'t>> InLine<'t> for Case<X, Y> {
     }
 }
 
-impl<'t, X: InLine<'t>, Y: InLine<'t>> InLine<'t> for Handler<X, Y> {
-    ghost put = { handler_row given_marks X.put Y.put };
+impl<'t> InLine<'t> for Handler<Pattern, Boxed<Stmt>> {
+    ghost put = { items.handler };
 
     fn push_items(&'t self, out: &mut Vec<LineItem<'t>>) -> Result<(), OutOfMemory> {
-        push_token(&self.word, out)?;
-        self.target.push_items(out)?;
-        self.body.push_items(out)
+        push_node(Node::Handler(self), out)
     }
 }

@@ -3,7 +3,7 @@ ghost use Rattle.std.specs.Prelude.{◌≡◌, [], ◌∷◌, List, OnOk, true};
 ghost use Rattle.js_tree.specs.Adds.{Adds};
 ghost use Rattle.js_tree.specs.Parts.{Node as GhostNode, node_of, nodes, tails_behind};
 ghost use Rattle.js_tree.specs.Spelling.Nodes.{unmarked};
-ghost use Rattle.js_tree.specs.Spelling.Rows.{arm_row, arrow_params_row, block_row, case_row, each_of, element_row, enclosed_row, for_start_row, guarded_row, handler_row, init_row, left_row, listed_row, maybe, template_row};
+ghost use Rattle.js_tree.specs.Spelling.Rows.{arm_row, arrow_params_row, block_row, case_row, each_of, element_row, enclosed_row, for_start_row, guarded_row, init_row, left_row, listed_row, maybe, template_row};
 
 use crate::lists::{
     Arm, ArrowParams, Block, Bracket, Case, Element, Enclosed, ForStart, Further, Guarded, Handler,
@@ -193,11 +193,11 @@ impl<'t, X: InNode<'t>> InNode<'t> for ArrowParams<X> {
     }
 }
 
-impl<'t, X: InNode<'t>> InNode<'t> for Block<X> {
-    ghost put = { block_row unmarked X.put };
+impl<'t> InNode<'t> for Block<Stmt> {
+    ghost put = { block_row unmarked nodes.body };
 
     fn push_nodes(&'t self, out: &mut Vec<Node<'t>>) -> Result<(), OutOfMemory> {
-        push_each(self.body.as_slice(), out)
+        push(Node::Body(self.body.as_slice()), out)
     }
 }
 
@@ -256,11 +256,10 @@ impl<'t, X: InNode<'t>, Y: InNode<'t>> InNode<'t> for Case<X, Y> {
     }
 }
 
-impl<'t, X: InNode<'t>, Y: InNode<'t>> InNode<'t> for Handler<X, Y> {
-    ghost put = { handler_row unmarked X.put Y.put };
+impl<'t> InNode<'t> for Handler<Pattern, Boxed<Stmt>> {
+    ghost put = { nodes.handler };
 
     fn push_nodes(&'t self, out: &mut Vec<Node<'t>>) -> Result<(), OutOfMemory> {
-        self.target.push_nodes(out)?;
-        self.body.push_nodes(out)
+        push(Node::Handler(self), out)
     }
 }

@@ -22,7 +22,10 @@ mod value;
 mod walk;
 
 pub use level::{Level, admits, is_target};
-pub use lists::{Arm, ArrowParams, Block, Bracket, Element, Further, Init, Listed, Tail, Template};
+pub use lists::{
+    Arm, ArrowParams, Block, Bracket, Case, Element, Enclosed, ForStart, Further, Guarded, Handler,
+    Init, Left, Listed, Tail, Template,
+};
 pub use node::{Node, push_parts};
 pub use part::{EscapePart, NumberPart, RegexPart, StringPart, TemplatePart, TriviaPart};
 pub use spelling::spell;

@@ -3,10 +3,10 @@ ghost use Rattle.std.specs.Prelude.{◌≡◌, ◌++◌, ◌∷◌, map, OnOk};
 ghost use Rattle.js_tree.specs.Adds.{Adds};
 ghost use Rattle.js_tree.specs.Line.{AToken, ANode, given_marks, item_of, items, line_of, line_row};
 ghost use Rattle.js_tree.specs.Parts.{AnExpr, AFunction, AKey, APattern, APatternProperty, AProperty, AStmt, ASlot, node_of};
-ghost use Rattle.js_tree.specs.Spelling.Rows.{tail_row};
+ghost use Rattle.js_tree.specs.Spelling.Rows.{handler_row, tail_row};
 
 use crate::in_line::{InLine, push_each, push_tails};
-use crate::lists::Tail;
+use crate::lists::{Handler, Tail};
 use crate::node::Node;
 use crate::token::Token;
 use crate::tree::{Expr, Function, Key, Pattern, PatternProperty, Property, Slot, Stmt};
@@ -50,6 +50,8 @@ fn push_row<'t>(node: Node<'t>, out: &mut Vec<LineItem<'t>>) -> Result<(), OutOf
             tail,
         } => push_tail(tail, out),
         Node::Body(body) => push_each(body, out),
+        Node::Cases(cases) => push_each(cases, out),
+        Node::Handler(handler) => push_handler(handler, out),
     }
 }
 
@@ -353,7 +355,7 @@ fn push_stmt<'t>(statement: &'t Stmt, out: &mut Vec<LineItem<'t>>) -> Result<(),
             push_token(word, out)?;
             value.push_items(out)?;
             push_token(begin, out)?;
-            push_each(cases.as_slice(), out)?;
+            push_node(Node::Cases(cases.as_slice()), out)?;
             push_token(end, out)
         }
         Stmt::Try {
@@ -407,6 +409,18 @@ fn push_tail<'t>(
         Tail::Call(arguments) => arguments.push_items(out),
         Tail::Template(template) => template.push_items(out),
     }
+}
+
+fn push_handler<'t>(
+    handler: &'t Handler<Pattern, Boxed<Stmt>>,
+    out: &mut Vec<LineItem<'t>>,
+) -> Result<(), OutOfMemory>
+    ensures { OnOk result (Adds item_of (handler_row given_marks items.pattern items.stmt handler.now)
+        out.old.items out.new.items) }
+{
+    push_token(&handler.word, out)?;
+    handler.target.push_items(out)?;
+    handler.body.push_items(out)
 }
 
 /// Adds a token.

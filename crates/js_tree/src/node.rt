@@ -2,11 +2,11 @@
 ghost use Rattle.std.specs.Prelude.{◌≡◌, ◌++◌, ◌∷◌, map, OnOk};
 ghost use Rattle.js_tree.specs.Adds.{Adds};
 ghost use Rattle.js_tree.specs.Parts.{AnExpr, AFunction, AKey, APattern, APatternProperty, AProperty, AStmt, ASlot, node_of, nodes, parts, parts_row};
-ghost use Rattle.js_tree.specs.Spelling.Rows.{tail_row};
+ghost use Rattle.js_tree.specs.Spelling.Rows.{handler_row, tail_row};
 ghost use Rattle.js_tree.specs.Spelling.Nodes.{unmarked};
 
 use crate::in_node::{InNode, push_each, push_tails};
-use crate::lists::Tail;
+use crate::lists::{Case, Handler, Tail};
 use crate::tree::{Expr, Function, Key, Pattern, PatternProperty, Property, Slot, Stmt};
 use jam_base::OutOfMemory;
 use sqlite_items::Boxed;
@@ -41,6 +41,10 @@ pub enum Node<'t> {
     },
     /// Statements one after another.
     Body(&'t [Stmt]),
+    /// The cases of a choice by a value.
+    Cases(&'t [Case<Boxed<Expr>, Stmt>]),
+    /// What is done with an exception.
+    Handler(&'t Handler<Pattern, Boxed<Stmt>>),
 }
 
 /// Adds the parts of a node, in the order of the text.
@@ -71,6 +75,8 @@ fn push_row<'t>(node: Node<'t>, out: &mut Vec<Node<'t>>) -> Result<(), OutOfMemo
             tail,
         } => push_in_tail(tail, out),
         Node::Body(body) => push_each(body, out),
+        Node::Cases(cases) => push_each(cases, out),
+        Node::Handler(handler) => push_in_handler(handler, out),
     }
 }
 
@@ -347,7 +353,7 @@ fn push_in_stmt<'t>(statement: &'t Stmt, out: &mut Vec<Node<'t>>) -> Result<(), 
             end: _,
         } => {
             value.push_nodes(out)?;
-            push_each(cases.as_slice(), out)
+            push(Node::Cases(cases.as_slice()), out)
         }
         Stmt::Try {
             word: _,
@@ -390,6 +396,17 @@ fn push_in_tail<'t>(tail: &'t Tail<Boxed<Expr>>, out: &mut Vec<Node<'t>>) -> Res
         Tail::Call(arguments) => arguments.push_nodes(out),
         Tail::Template(template) => template.push_nodes(out),
     }
+}
+
+fn push_in_handler<'t>(
+    handler: &'t Handler<Pattern, Boxed<Stmt>>,
+    out: &mut Vec<Node<'t>>,
+) -> Result<(), OutOfMemory>
+    ensures { OnOk result (Adds node_of (handler_row unmarked nodes.pattern nodes.stmt handler.now)
+        out.old.items out.new.items) }
+{
+    handler.target.push_nodes(out)?;
+    handler.body.push_nodes(out)
 }
 
 /// Adds a node.

@@ -17,11 +17,11 @@ use Rattle.js_tree.specs.Spelling.Nodes.{Seen, Ending, AfterOperand, AfterBlock,
 
 abbrev pub function_row : {E F K P Q O S L R : Type 0} → Writer E F K P Q O S L R → Function-F E F K P Q O S L → R → R
 function_row w (Function-F.Keyword word name params body) rest =
-    mark w.marks kind.Function word (may_mark w.marks kind.Name name (round_row w.marks w.slot params (block_row w.marks w.stmt body rest)))
+    mark w.marks kind.Function word (may_mark w.marks kind.Name name (round_row w.marks w.slot params (block_row w.marks w.body body rest)))
 function_row w (Function-F.Arrow params arrow value) rest =
     arrow_params_row w.marks w.slot params (w.marks.ahead on_line (mark w.marks kind.Arrow arrow (w.marks.ahead begins_value (w.expr value rest))))
 function_row w (Function-F.ArrowBlock params arrow body) rest =
-    arrow_params_row w.marks w.slot params (w.marks.ahead on_line (mark w.marks kind.Arrow arrow (block_row w.marks w.stmt body rest)))
+    arrow_params_row w.marks w.slot params (w.marks.ahead on_line (mark w.marks kind.Arrow arrow (block_row w.marks w.body body rest)))
 
 -- CONDITIONS
 

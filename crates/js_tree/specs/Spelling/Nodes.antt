@@ -8,7 +8,7 @@ use Rattle.js_tree.specs.declared.lists.Bracket.{Bracket}
 use Rattle.js_tree.specs.declared.lists.Element.{Element}
 use Rattle.js_tree.specs.declared.lists.Further.{Further}
 use Rattle.js_tree.specs.Pieces.{Piece, Tok, Must, Ahead, Onto}
-use Rattle.js_tree.specs.Spelling.Rows.{Marks, WriterOf, each_of, maybe, tail_row}
+use Rattle.js_tree.specs.Spelling.Rows.{Marks, WriterOf, each_of, maybe, tail_row, case_row, handler_row}
 
 -- with what an expression ends: an operand, `++` or `--` behind a target, the body of an arrow in braces, or what is declared
 -- and given nothing; or a statement without one, a word or a label
@@ -177,6 +177,9 @@ lines = record {
   stmt = seen_line;
   slot = seen_line;
   tails = λ head. each_of (tail_row pieces seen_line);
+  body = each_of seen_line;
+  cases = each_of (case_row pieces seen_line seen_line);
+  handler = handler_row pieces seen_line seen_line;
 }
 
 -- something of the nodes in it alone
@@ -195,6 +198,9 @@ over_nodes put = record {
   stmt = put;
   slot = put;
   tails = λ head. each_of (tail_row unmarked put);
+  body = each_of put;
+  cases = each_of (case_row unmarked put put);
+  handler = handler_row unmarked put put;
 }
 
 -- the height of the highest

@@ -33,7 +33,8 @@ pub record Marks (R : Type 0) : Type 0 where
   pub ahead : (TokenKind → Bool → Bool) → R → R
 
 -- the same of nodes: of an expression, a function, a key, a pattern, a property in a pattern, one of an object, a
--- statement, a slot, and of the tails behind a head
+-- statement, a slot, and of the tails behind a head, of statements in braces, of the cases of a `switch`, and of what is done with
+-- an exception
 pub record Writer (E F K P Q O S L R : Type 0) : Type 0 where
   pub marks : Marks R
   pub expr : E → R → R
@@ -45,6 +46,9 @@ pub record Writer (E F K P Q O S L R : Type 0) : Type 0 where
   pub stmt : S → R → R
   pub slot : L → R → R
   pub tails : E → List (Tail E) → R → R
+  pub body : List S → R → R
+  pub cases : List (Case E S) → R → R
+  pub handler : Handler P S → R → R
 
 -- the same where all nodes are of one type
 abbrev pub WriterOf : Type 0 → Type 0 → Type 0
@@ -139,8 +143,8 @@ abbrev pub init_row : {X R : Type 0} → Marks R → (X → R → R) → Init X 
 init_row m put x rest = m.token is_assignment x.equals (put x.value rest)
 
 -- statements in braces
-abbrev pub block_row : {X R : Type 0} → Marks R → (X → R → R) → Block X → R → R
-block_row m put b rest = mark m kind.LeftBrace b.begin (each_of put b.body (mark m kind.RightBrace b.end rest))
+abbrev pub block_row : {X R : Type 0} → Marks R → (List X → R → R) → Block X → R → R
+block_row m put b rest = mark m kind.LeftBrace b.begin (put b.body (mark m kind.RightBrace b.end rest))
 
 -- what stands in round brackets
 abbrev pub enclosed_row : {X R : Type 0} → Marks R → (X → R → R) → Enclosed X → R → R

@@ -18,13 +18,13 @@ use Rattle.js_tree.specs.Pieces.{Ahead, Onto}
 use Rattle.js_tree.specs.TokenKinds.{is}
 use Rattle.js_tree.specs.Spelling.Ends.{may_end, no_else, no_semicolon}
 use Rattle.js_tree.specs.Spelling.Patterns.{DECLARED}
-use Rattle.js_tree.specs.Spelling.Rows.{Writer, mark, may_mark, each_of, maybe, further_row, block_row, enclosed_row, guarded_row, for_start_row, left_row, case_row, handler_row}
+use Rattle.js_tree.specs.Spelling.Rows.{Writer, mark, may_mark, each_of, maybe, further_row, block_row, enclosed_row, guarded_row, for_start_row, left_row}
 use Rattle.js_tree.specs.Spelling.Nodes.{Seen, Ending, AfterOperand, AfterWord, ASSIGN, stands, passes, all_further, last_ending, is_named, musts, lines, highest_of, some_has}
 
 -- SPELLING, one line for each kind
 
 abbrev pub stmt_row : {E F K P Q O S L R : Type 0} → Writer E F K P Q O S L R → Stmt-F E F K P Q O S L → R → R
-stmt_row w (Stmt-F.«Stmt::Block» block) rest = block_row w.marks w.stmt block rest
+stmt_row w (Stmt-F.«Stmt::Block» block) rest = block_row w.marks w.body block rest
 stmt_row w (Stmt-F.Vars word first others semi) rest =
     w.marks.token is_declarator word (w.slot first (each_of (further_row w.marks w.slot (is kind.Comma)) others (may_mark w.marks kind.Semicolon semi rest)))
 stmt_row w (Stmt-F.Empty semi) rest = mark w.marks kind.Semicolon semi rest
@@ -51,9 +51,9 @@ stmt_row w (Stmt-F.Return word value semi) rest =
     mark w.marks kind.Return word (maybe (λ x more. w.marks.ahead on_line (w.expr x more)) value (may_mark w.marks kind.Semicolon semi rest))
 stmt_row w (Stmt-F.Throw word value semi) rest = mark w.marks kind.Throw word (w.marks.ahead on_line (w.expr value (may_mark w.marks kind.Semicolon semi rest)))
 stmt_row w (Stmt-F.Switch word value begin cases end) rest =
-    mark w.marks kind.Switch word (enclosed_row w.marks w.expr value (mark w.marks kind.LeftBrace begin (each_of (case_row w.marks w.expr w.stmt) cases (mark w.marks kind.RightBrace end rest))))
+    mark w.marks kind.Switch word (enclosed_row w.marks w.expr value (mark w.marks kind.LeftBrace begin (w.cases cases (mark w.marks kind.RightBrace end rest))))
 stmt_row w (Stmt-F.Try word body handler last) rest =
-    mark w.marks kind.Try word (w.stmt body (maybe (handler_row w.marks w.pattern w.stmt) handler (maybe (further_row w.marks w.stmt (is kind.Finally)) last rest)))
+    mark w.marks kind.Try word (w.stmt body (maybe w.handler handler (maybe (further_row w.marks w.stmt (is kind.Finally)) last rest)))
 stmt_row w (Stmt-F.Label name colon body) rest = mark w.marks kind.Name name (mark w.marks kind.Colon colon (w.stmt body rest))
 stmt_row w (Stmt-F.Debugger word semi) rest = mark w.marks kind.Debugger word (may_mark w.marks kind.Semicolon semi rest)
 stmt_row w (Stmt-F.«Stmt::Fun» function) rest = w.function function rest
