@@ -1,3 +1,4 @@
+pub mod AnswerLemmas
 pub mod CoverLemmas
 pub mod CoveringLemmas
 pub mod DeclaredLemmas
