@@ -12,16 +12,16 @@ pub none_of : {A : Type 0} (o : Option A) → ((x : A) → o ≡ Some x → ⊥)
 none_of None f = refl
 none_of (Some x) f = absurd (f x refl)
 
--- what was made, what alone was made, and that nothing was made
-module _ {A E : Type 0} (P : A → Type 0) (o : Option A) where
-  pub has_made : (x : A) → o ≡ Some x → Makes {A} {E} (Ok o) P → P x
-  has_made x e made = subst (λ (z : Option A). Makes {A} {E} (Ok z) P) e made
+-- what was made, what alone was made, and that nothing was made, of what equals the argument
+module _ {I A : Type 0} (P : I → A → Type 0) (i j : I) (same : i ≡ j) (o : Option A) where
+  pub has_made : (x : A) → o ≡ Some x → Makes {A} {Unit {0}} (Ok o) (P i) → P j x
+  has_made x e made = subst (λ (z : I). P z x) same (subst (λ (z : Option A). Makes {A} {Unit {0}} (Ok z) (P i)) e made)
 
-  pub made_one : (x : A) → o ≡ Some x → MakesOnly {A} {E} (Ok o) P → One P x
-  made_one x e only y p = subst (λ (z : Option A). MakesThis {A} {E} (Ok z) y) e (only y p)
+  pub made_one : (x : A) → o ≡ Some x → MakesOnly {A} {Unit {0}} (Ok o) (P i) → One (P j) x
+  made_one x e only y p = subst (λ (z : Option A). MakesThis {A} {Unit {0}} (Ok z) y) e (only y (subst (λ (z : I). P z y) (sym same) p))
 
-  pub made_no : o ≡ None → MakesOnly {A} {E} (Ok o) P → No P
-  made_no e only y p = subst (λ (z : Option A). MakesThis {A} {E} (Ok z) y) e (only y p)
+  pub made_no : o ≡ None → MakesOnly {A} {Unit {0}} (Ok o) (P i) → No (P j)
+  made_no e only y p = subst (λ (z : Option A). MakesThis {A} {Unit {0}} (Ok z) y) e (only y (subst (λ (z : I). P z y) (sym same) p))
 
 -- ITEMS THAT MAY BE THERE
 
