@@ -1,8 +1,13 @@
+pub mod AddLemmas
 pub mod BeginLemmas
+pub mod CarryLemmas
 pub mod EdgeLemmas
+pub mod KeepLemmas
 pub mod LeastSolution
 pub mod LinkLemmas
 pub mod Members
+pub mod NewWays
+pub mod NoteLemmas
 pub mod NumberLemmas
 pub mod OneList
 pub mod OrderLemmas
@@ -11,10 +16,10 @@ pub mod Renamed
 pub mod RoomLemmas
 pub mod RowLemmas
 pub mod SeenValues
-pub mod SetLemmas
 pub mod SizeLemmas
 pub mod SolvedLemmas
-pub mod SpreadLemmas
+pub mod SpendLemmas
 pub mod StepLemmas
-pub mod SweepLemmas
+pub mod UseLemmas
 pub mod WayLemmas
+pub mod WorkBound
