@@ -1,0 +1,270 @@
+use Rattle.std.proofs.Common.{◌≡◌, List, [], ◌∷◌, refl, sym, ap, ◌∙◌, subst, arith, Option, Some, None}
+use Rattle.js_tree.specs.declared.lists.Bracket.{Bracket}
+use Rattle.js_tree.specs.declared.lists.Element.{Element}
+use Rattle.js_tree.specs.declared.tree.Expr.{Expr, out-Expr}
+use Rattle.js_tree.specs.declared.tree.Expr.TheVariants as expression
+use Rattle.js_tree.specs.declared.tree.Property.{Property, out-Property}
+use Rattle.js_tree.specs.declared.tree.Property.TheVariants as value_of
+use Rattle.js_tree.specs.Spelling.{expr, property}
+use Rattle.js_cover.specs.Answers.{Makes, MakesOnly}
+use Rattle.js_cover.specs.Covers.{Covers, CoversProperty, CoversSlot}
+use Rattle.js_cover.specs.Heights.{bracket_high, front_high, may_high}
+use Rattle.js_cover.specs.Pairs.{EachPair, ElementPair, InPairs, ItemPair, MayPair}
+use Rattle.js_cover.proofs.AnswerLemmas.{bracket_no_front, bracket_no_last, bracket_of, bracket_one, element_no, element_of, element_one, has_made, made_no, made_one, may_none, may_none_one, may_some, may_some_no, may_some_one, none_of}
+use Rattle.js_cover.proofs.LoopLemmas.{loop_found, loop_next, loop_none, loop_only, loop_start, next_low, rest_low, start_low, taken_shorter}
+use Rattle.js_cover.proofs.MadeLemmas.{One, alone_made, alone_no, alone_one, array_made, array_no, array_no_end, array_one, keyed_made, keyed_no, keyed_one, name_made, name_one, named_made, named_no, named_no_name, named_one, no_assign, object_made, object_no, object_no_end, object_one, others_no, paren_made, paren_no, paren_no_place, paren_one, rest_made, rest_no, rest_no_alone, rest_one}
+use Rattle.js_cover.proofs.MeasureLemmas.{array_high, object_high, pair_high, paren_high, shorthand_high, spread_high}
+use Rattle.js_cover.proofs.ReadLemmas.{item_height, value_height}
+use Rattle.js_cover.proofs.+cover.Goals as goal
+
+-- PATTERNS
+
+pub pattern_of-returns-in-Name-clause-found : goal.pattern_of-returns-in-Name-clause-found
+pattern_of-returns-in-Name-clause-found t c = subst (λ (x : Expr). Covers x _) (sym c.in-Name.is) (name_made c.in-Name.name)
+
+pub pattern_of-returns-in-Name-clause-only : goal.pattern_of-returns-in-Name-clause-only
+pattern_of-returns-in-Name-clause-only t c = subst (λ (x : Expr). One (Covers x) _) (sym c.in-Name.is) (name_one c.in-Name.name)
+
+pub pattern_of-paren_pattern-requires : goal.pattern_of-paren_pattern-requires
+pattern_of-paren_pattern-requires t c =
+    let n = c.in-Paren in
+    let low = paren_high c.args.cover n.«open» n.inner n.close (ap out-Expr n.is ∙ expression.outs-Paren n.«open» n.inner n.close) in
+    (omega (arith, low), tt)
+
+pub pattern_of-returns-in-Paren-clause-found : goal.pattern_of-returns-in-Paren-clause-found
+pattern_of-returns-in-Paren-clause-found t c = subst (λ (x : Expr). Makes c.paren_pattern.result (Covers x)) (sym c.in-Paren.is) c.paren_pattern.ensures.found
+
+pub pattern_of-returns-in-Paren-clause-only : goal.pattern_of-returns-in-Paren-clause-only
+pattern_of-returns-in-Paren-clause-only t c = subst (λ (x : Expr). MakesOnly c.paren_pattern.result (Covers x)) (sym c.in-Paren.is) c.paren_pattern.ensures.only
+
+pub pattern_of-array_pattern-requires : goal.pattern_of-array_pattern-requires
+pattern_of-array_pattern-requires t c =
+    let n = c.in-Array in
+    let low = array_high c.args.cover n.items (ap out-Expr n.is ∙ expression.outs-Array n.items) in
+    (omega (arith, low), tt)
+
+pub pattern_of-returns-in-Array-clause-found : goal.pattern_of-returns-in-Array-clause-found
+pattern_of-returns-in-Array-clause-found t c = subst (λ (x : Expr). Makes c.array_pattern.result (Covers x)) (sym c.in-Array.is) c.array_pattern.ensures.found
+
+pub pattern_of-returns-in-Array-clause-only : goal.pattern_of-returns-in-Array-clause-only
+pattern_of-returns-in-Array-clause-only t c = subst (λ (x : Expr). MakesOnly c.array_pattern.result (Covers x)) (sym c.in-Array.is) c.array_pattern.ensures.only
+
+pub pattern_of-object_pattern-requires : goal.pattern_of-object_pattern-requires
+pattern_of-object_pattern-requires t c =
+    let n = c.in-Object in
+    let low = object_high c.args.cover n.properties (ap out-Expr n.is ∙ expression.outs-Object n.properties) in
+    (omega (arith, low), tt)
+
+pub pattern_of-returns-in-Object-clause-found : goal.pattern_of-returns-in-Object-clause-found
+pattern_of-returns-in-Object-clause-found t c = subst (λ (x : Expr). Makes c.object_pattern.result (Covers x)) (sym c.in-Object.is) c.object_pattern.ensures.found
+
+pub pattern_of-returns-in-Object-clause-only : goal.pattern_of-returns-in-Object-clause-only
+pattern_of-returns-in-Object-clause-only t c = subst (λ (x : Expr). MakesOnly c.object_pattern.result (Covers x)) (sym c.in-Object.is) c.object_pattern.ensures.only
+
+pub pattern_of-returns-in-Chain-clause-found : goal.pattern_of-returns-in-Chain-clause-found
+pattern_of-returns-in-Chain-clause-found t c = subst (λ (x : Expr). Makes c.member_pattern.result (Covers x)) (sym c.in-Chain.is) c.member_pattern.ensures.found
+
+pub pattern_of-returns-in-Chain-clause-only : goal.pattern_of-returns-in-Chain-clause-only
+pattern_of-returns-in-Chain-clause-only t c = subst (λ (x : Expr). MakesOnly c.member_pattern.result (Covers x)) (sym c.in-Chain.is) c.member_pattern.ensures.only
+
+pub pattern_of-returns-in_default-clause-only : goal.pattern_of-returns-in_default-clause-only
+pattern_of-returns-in_default-clause-only t c = others_no c.args.cover c.in_default.not-Name c.in_default.not-Paren c.in_default.not-Array c.in_default.not-Object c.in_default.not-Chain
+
+-- ROUND BRACKETS
+
+pub paren_pattern-pattern_of-requires : goal.paren_pattern-pattern_of-requires
+paren_pattern-pattern_of-requires t c =
+    let same = ap (λ (x : Expr). (expr x).height) c.into_inner.ensures in
+    (omega (arith, same), tt)
+
+pub paren_pattern-returns-in_default-clause-only : goal.paren_pattern-returns-in_default-clause-only
+paren_pattern-returns-in_default-clause-only t c =
+    paren_no c.args.begin c.args.inner c.args.end (made_no Covers _ c.args.inner c.into_inner.ensures _ (none_of _ c.in_default.not-Some) c.in_ok-inner.ensures.only)
+
+pub paren_pattern-returns-then-not-is_place-clause-only : goal.paren_pattern-returns-then-not-is_place-clause-only
+paren_pattern-returns-then-not-is_place-clause-only t c =
+    paren_no_place c.args.begin c.args.inner c.args.end c.in-Some.inner (made_one Covers _ c.args.inner c.into_inner.ensures _ c.in-Some.inner c.in-Some.is c.in_ok-inner.ensures.only)
+    (sym c.is_place.ensures ∙ c.if-not-is_place.true)
+
+pub paren_pattern-returns-clause-found : goal.paren_pattern-returns-clause-found
+paren_pattern-returns-clause-found t c =
+    paren_made c.args.begin c.args.inner c.args.end c.in-Some.inner _ c.in_ok-new.ensures (has_made Covers _ c.args.inner c.into_inner.ensures _ c.in-Some.inner c.in-Some.is c.in_ok-inner.ensures.found)
+    (sym c.is_place.ensures ∙ c.if-not-is_place.false)
+
+pub paren_pattern-returns-clause-only : goal.paren_pattern-returns-clause-only
+paren_pattern-returns-clause-only t c =
+    paren_one c.args.begin c.args.inner c.args.end c.in-Some.inner _ c.in_ok-new.ensures (made_one Covers _ c.args.inner c.into_inner.ensures _ c.in-Some.inner c.in-Some.is c.in_ok-inner.ensures.only)
+
+-- SLOTS
+
+pub slot_of-returns-in-Assign-clause-found : goal.slot_of-returns-in-Assign-clause-found
+slot_of-returns-in-Assign-clause-found t c = ?
+
+pub slot_of-returns-in-Assign-clause-only : goal.slot_of-returns-in-Assign-clause-only
+slot_of-returns-in-Assign-clause-only t c = ?
+
+pub slot_of-slot_alone-requires : goal.slot_of-slot_alone-requires
+slot_of-slot_alone-requires t c =
+    let same = c.in_default.other-is in
+    let high = ap (λ (x : Expr). (expr x).height) same in
+    (omega (arith, high), no_assign _ (λ target op value e. c.in_default.not-Assign target op value (same ∙ e)))
+
+pub slot_of-returns-in_default-clause-found : goal.slot_of-returns-in_default-clause-found
+slot_of-returns-in_default-clause-found t c = subst (λ (x : Expr). Makes c.slot_alone.result (CoversSlot x)) (sym c.in_default.other-is) c.slot_alone.ensures.found
+
+pub slot_of-returns-in_default-clause-only : goal.slot_of-returns-in_default-clause-only
+slot_of-returns-in_default-clause-only t c = subst (λ (x : Expr). MakesOnly c.slot_alone.result (CoversSlot x)) (sym c.in_default.other-is) c.slot_alone.ensures.only
+
+pub slot_alone-returns-in_default-clause-only : goal.slot_alone-returns-in_default-clause-only
+slot_alone-returns-in_default-clause-only t c = alone_no c.args.cover c.requires.kind (made_no Covers _ c.args.cover refl _ (none_of _ c.in_default.not-Some) c.in_ok-target.ensures.only)
+
+pub slot_alone-returns-clause-found : goal.slot_alone-returns-clause-found
+slot_alone-returns-clause-found t c = alone_made c.args.cover c.in-Some.target (has_made Covers _ c.args.cover refl _ c.in-Some.target c.in-Some.is c.in_ok-target.ensures.found)
+
+pub slot_alone-returns-clause-only : goal.slot_alone-returns-clause-only
+slot_alone-returns-clause-only t c = alone_one c.args.cover c.in-Some.target c.requires.kind (made_one Covers _ c.args.cover refl _ c.in-Some.target c.in-Some.is c.in_ok-target.ensures.only)
+
+-- ITEMS
+
+pub element_slot-slot_of-requires : goal.element_slot-slot_of-requires
+element_slot-slot_of-requires t c =
+    let same = ap (λ (x : Expr). (expr x).height) c.into_inner.ensures in
+    (omega (arith, same), tt)
+
+pub element_slot-returns-in_default-clause-only : goal.element_slot-returns-in_default-clause-only
+element_slot-returns-in_default-clause-only t c = element_no CoversSlot c.args.element (made_no CoversSlot _ _ c.into_inner.ensures _ (none_of _ c.in_default.not-Some) c.in_ok-value.ensures.only)
+
+pub element_slot-returns-clause-found : goal.element_slot-returns-clause-found
+element_slot-returns-clause-found t c = element_of CoversSlot c.args.element c.in-Some.value (has_made CoversSlot _ _ c.into_inner.ensures _ c.in-Some.value c.in-Some.is c.in_ok-value.ensures.found)
+
+pub element_slot-returns-clause-only : goal.element_slot-returns-clause-only
+element_slot-returns-clause-only t c = element_one CoversSlot c.args.element c.in-Some.value (made_one CoversSlot _ _ c.into_inner.ensures _ c.in-Some.value c.in-Some.is c.in_ok-value.ensures.only)
+
+pub item_slot-element_slot-requires : goal.item_slot-element_slot-requires
+item_slot-element_slot-requires t c =
+    let same = ap item_height c.in-Some.is in
+    (omega (arith, same), tt)
+
+pub item_slot-returns-in_default-clause-found : goal.item_slot-returns-in_default-clause-found
+item_slot-returns-in_default-clause-found t c = may_none (ElementPair CoversSlot) c.args.item (none_of _ c.in_default.not-Some)
+
+pub item_slot-returns-in_default-clause-only : goal.item_slot-returns-in_default-clause-only
+item_slot-returns-in_default-clause-only t c = may_none_one (ElementPair CoversSlot) c.args.item (none_of _ c.in_default.not-Some)
+
+pub item_slot-returns-in_default-2-clause-only : goal.item_slot-returns-in_default-2-clause-only
+item_slot-returns-in_default-2-clause-only t c =
+    may_some_no (ElementPair CoversSlot) c.args.item c.in-Some.element c.in-Some.is (made_no (ElementPair CoversSlot) _ _ refl _ (none_of _ c.in_default-2.not-Some) c.in_ok-element.ensures.only)
+
+pub item_slot-returns-clause-found : goal.item_slot-returns-clause-found
+item_slot-returns-clause-found t c =
+    may_some (ElementPair CoversSlot) c.args.item c.in-Some.element c.in-Some-2.element c.in-Some.is (has_made (ElementPair CoversSlot) _ _ refl _ c.in-Some-2.element c.in-Some-2.is c.in_ok-element.ensures.found)
+
+pub item_slot-returns-clause-only : goal.item_slot-returns-clause-only
+item_slot-returns-clause-only t c =
+    may_some_one (ElementPair CoversSlot) c.args.item c.in-Some.element c.in-Some-2.element c.in-Some.is (made_one (ElementPair CoversSlot) _ _ refl _ c.in-Some-2.element c.in-Some-2.is c.in_ok-element.ensures.only)
+
+pub last_slot-item_slot-requires : goal.last_slot-item_slot-requires
+last_slot-item_slot-requires t c =
+    let same = ap (may_high item_height) c.in-Some.is in
+    (omega (arith, same), tt)
+
+pub last_slot-returns-in_default-clause-found : goal.last_slot-returns-in_default-clause-found
+last_slot-returns-in_default-clause-found t c = may_none (ItemPair CoversSlot) c.args.last (none_of _ c.in_default.not-Some)
+
+pub last_slot-returns-in_default-clause-only : goal.last_slot-returns-in_default-clause-only
+last_slot-returns-in_default-clause-only t c = may_none_one (ItemPair CoversSlot) c.args.last (none_of _ c.in_default.not-Some)
+
+pub last_slot-returns-in_default-2-clause-only : goal.last_slot-returns-in_default-2-clause-only
+last_slot-returns-in_default-2-clause-only t c =
+    may_some_no (ItemPair CoversSlot) c.args.last c.in-Some.item c.in-Some.is (made_no (ItemPair CoversSlot) _ _ refl _ (none_of _ c.in_default-2.not-Some) c.in_ok-item.ensures.only)
+
+pub last_slot-returns-clause-found : goal.last_slot-returns-clause-found
+last_slot-returns-clause-found t c =
+    may_some (ItemPair CoversSlot) c.args.last c.in-Some.item c.in-Some-2.item c.in-Some.is (has_made (ItemPair CoversSlot) _ _ refl _ c.in-Some-2.item c.in-Some-2.is c.in_ok-item.ensures.found)
+
+pub last_slot-returns-clause-only : goal.last_slot-returns-clause-only
+last_slot-returns-clause-only t c =
+    may_some_one (ItemPair CoversSlot) c.args.last c.in-Some.item c.in-Some-2.item c.in-Some.is (made_one (ItemPair CoversSlot) _ _ refl _ c.in-Some-2.item c.in-Some-2.is c.in_ok-item.ensures.only)
+
+pub front_slots-loop-listed-init : goal.front_slots-loop-listed-init
+front_slots-loop-listed-init t c =
+    let e = c.in_ok-left.ensures {u = tt} in
+    record {
+      halfway = loop_start (ItemPair CoversSlot) c.args.front _ _ e c.new-slots.ensures;
+      low = start_low item_height c.args.front _ e;
+    }
+
+pub front_slots-item_slot-requires : goal.front_slots-item_slot-requires
+front_slots-item_slot-requires t c =
+    let low = next_low item_height _ c.loop-listed.left _ c.in-Some.listed c.in-Some.ensures c.loop-listed.invariant.low in
+    (omega (arith, low), tt)
+
+pub front_slots-returns-in_default-clause-only : goal.front_slots-returns-in_default-clause-only
+front_slots-returns-in_default-clause-only t c =
+    loop_none (ItemPair CoversSlot) c.args.front c.loop-listed.left _ c.loop-listed.slots c.in-Some.listed c.in-Some.ensures c.loop-listed.invariant.halfway
+    (made_no (ItemPair CoversSlot) _ _ refl _ (none_of _ c.in_default.not-Some) c.in_ok-item.ensures.only)
+
+pub front_slots-loop-listed-smaller : goal.front_slots-loop-listed-smaller
+front_slots-loop-listed-smaller t c = taken_shorter _ _ c.in-Some.listed c.in-Some.ensures
+
+pub front_slots-loop-listed-preserved : goal.front_slots-loop-listed-preserved
+front_slots-loop-listed-preserved t c = record {
+  halfway = loop_next (ItemPair CoversSlot) c.args.front c.loop-listed.left _ c.loop-listed.slots _ c.in-Some.listed c.in-Some-2.item c.in-Some.ensures c.in_ok-push.ensures.ok c.loop-listed.invariant.halfway
+      (has_made (ItemPair CoversSlot) _ _ refl _ c.in-Some-2.item c.in-Some-2.is c.in_ok-item.ensures.found) (made_one (ItemPair CoversSlot) _ _ refl _ c.in-Some-2.item c.in-Some-2.is c.in_ok-item.ensures.only);
+  low = rest_low item_height _ c.loop-listed.left _ c.in-Some.listed c.in-Some.ensures c.loop-listed.invariant.low;
+}
+
+pub front_slots-returns-clause-found : goal.front_slots-returns-clause-found
+front_slots-returns-clause-found t c = loop_found (ItemPair CoversSlot) c.args.front c.loop-listed.left c.loop-listed.slots c.in-None.ensures.0 c.loop-listed.invariant.halfway
+
+pub front_slots-returns-clause-only : goal.front_slots-returns-clause-only
+front_slots-returns-clause-only t c = loop_only (ItemPair CoversSlot) c.args.front c.loop-listed.left c.loop-listed.slots c.in-None.ensures.0 c.loop-listed.invariant.halfway
+
+-- ARRAYS
+
+pub array_slots-front_slots-requires : goal.array_slots-front_slots-requires
+array_slots-front_slots-requires t c = (omega arith, tt)
+
+pub array_slots-last_slot-requires : goal.array_slots-last_slot-requires
+array_slots-last_slot-requires t c = (omega arith, tt)
+
+pub array_slots-returns-in_default-clause-only : goal.array_slots-returns-in_default-clause-only
+array_slots-returns-in_default-clause-only t c =
+    bracket_no_front (ItemPair CoversSlot) c.args.items (made_no (EachPair (ItemPair CoversSlot)) _ _ refl _ (none_of _ c.in_default.not-Some) c.in_ok-front.ensures.only)
+
+pub array_slots-returns-in_default-2-clause-only : goal.array_slots-returns-in_default-2-clause-only
+array_slots-returns-in_default-2-clause-only t c =
+    bracket_no_last (ItemPair CoversSlot) c.args.items (made_no (MayPair (ItemPair CoversSlot)) _ _ refl _ (none_of _ c.in_default-2.not-Some) c.in_ok-last.ensures.only)
+
+pub array_slots-returns-clause-found : goal.array_slots-returns-clause-found
+array_slots-returns-clause-found t c =
+    bracket_of (ItemPair CoversSlot) c.args.items c.in-Some.front c.in-Some-2.last (has_made (EachPair (ItemPair CoversSlot)) _ _ refl _ c.in-Some.front c.in-Some.is c.in_ok-front.ensures.found)
+    (has_made (MayPair (ItemPair CoversSlot)) _ _ refl _ c.in-Some-2.last c.in-Some-2.is c.in_ok-last.ensures.found)
+
+pub array_slots-returns-clause-only : goal.array_slots-returns-clause-only
+array_slots-returns-clause-only t c =
+    bracket_one (ItemPair CoversSlot) c.args.items c.in-Some.front c.in-Some-2.last (made_one (EachPair (ItemPair CoversSlot)) _ _ refl _ c.in-Some.front c.in-Some.is c.in_ok-front.ensures.only)
+    (made_one (MayPair (ItemPair CoversSlot)) _ _ refl _ c.in-Some-2.last c.in-Some-2.is c.in_ok-last.ensures.only)
+
+pub array_pattern-array_slots-requires : goal.array_pattern-array_slots-requires
+array_pattern-array_slots-requires t c =
+    let same = ap (bracket_high item_height) c.into_inner.ensures in
+    (omega (arith, same), tt)
+
+pub array_pattern-returns-in_default-clause-only : goal.array_pattern-returns-in_default-clause-only
+array_pattern-returns-in_default-clause-only t c =
+    array_no c.args.items (made_no (InPairs (ItemPair CoversSlot)) _ c.args.items c.into_inner.ensures _ (none_of _ c.in_default.not-Some) c.in_ok-slots.ensures.only)
+
+pub array_pattern-returns-then-not-ends_well-clause-only : goal.array_pattern-returns-then-not-ends_well-clause-only
+array_pattern-returns-then-not-ends_well-clause-only t c =
+    array_no_end c.args.items c.in-Some.slots (made_one (InPairs (ItemPair CoversSlot)) _ c.args.items c.into_inner.ensures _ c.in-Some.slots c.in-Some.is c.in_ok-slots.ensures.only)
+    (sym c.ends_well.ensures ∙ c.if-not-ends_well.true)
+
+pub array_pattern-returns-clause-found : goal.array_pattern-returns-clause-found
+array_pattern-returns-clause-found t c =
+    array_made c.args.items c.in-Some.slots _ c.in_ok-new.ensures (has_made (InPairs (ItemPair CoversSlot)) _ c.args.items c.into_inner.ensures _ c.in-Some.slots c.in-Some.is c.in_ok-slots.ensures.found)
+    (sym c.ends_well.ensures ∙ c.if-not-ends_well.false)
+
+pub array_pattern-returns-clause-only : goal.array_pattern-returns-clause-only
+array_pattern-returns-clause-only t c =
+    array_one c.args.items c.in-Some.slots _ c.in_ok-new.ensures (made_one (InPairs (ItemPair CoversSlot)) _ c.args.items c.into_inner.ensures _ c.in-Some.slots c.in-Some.is c.in_ok-slots.ensures.only)
