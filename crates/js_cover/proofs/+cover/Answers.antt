@@ -1,13 +1,16 @@
 use Rattle.std.proofs.Common.{◌≡◌, List, [], ◌∷◌, refl, sym, ap, ◌∙◌, subst, arith, Option, Some, None}
 use Rattle.js_tree.specs.declared.lists.Bracket.{Bracket}
+use Rattle.std.specs.List.{list_all}
 use Rattle.js_tree.specs.declared.lists.Element.{Element}
+use Rattle.js_tree.specs.declared.lists.Listed.{Listed}
 use Rattle.js_tree.specs.declared.tree.Expr.{Expr, out-Expr}
 use Rattle.js_tree.specs.declared.tree.Expr.TheVariants as expression
+use Rattle.js_tree.specs.declared.tree.PatternProperty.{PatternProperty, out-PatternProperty}
 use Rattle.js_tree.specs.declared.tree.Property.{Property, out-Property}
 use Rattle.js_tree.specs.declared.tree.Property.TheVariants as value_of
 use Rattle.js_tree.specs.Spelling.{expr, property}
 use Rattle.js_cover.specs.Answers.{Makes, MakesOnly}
-use Rattle.js_cover.specs.Covers.{Covers, CoversProperty, CoversSlot}
+use Rattle.js_cover.specs.Covers.{Covers, CoversProperty, CoversSlot, is_no_rest}
 use Rattle.js_cover.specs.Heights.{bracket_high, front_high, may_high}
 use Rattle.js_cover.specs.Pairs.{EachPair, ElementPair, InPairs, ItemPair, MayPair}
 use Rattle.js_cover.proofs.AnswerLemmas.{bracket_no_front, bracket_no_last, bracket_of, bracket_one, element_no, element_of, element_one, has_made, made_no, made_one, may_none, may_none_one, may_some, may_some_no, may_some_one, none_of}
@@ -268,3 +271,202 @@ array_pattern-returns-clause-found t c =
 pub array_pattern-returns-clause-only : goal.array_pattern-returns-clause-only
 array_pattern-returns-clause-only t c =
     array_one c.args.items c.in-Some.slots _ c.in_ok-new.ensures (made_one (InPairs (ItemPair CoversSlot)) _ c.args.items c.into_inner.ensures _ c.in-Some.slots c.in-Some.is c.in_ok-slots.ensures.only)
+
+-- PROPERTIES
+
+pub keyed-slot_of-requires : goal.keyed-slot_of-requires
+keyed-slot_of-requires t c =
+    let same = ap (λ (x : Expr). (expr x).height) c.into_inner.ensures in
+    (omega (arith, same), tt)
+
+pub keyed-returns-in_default-clause-only : goal.keyed-returns-in_default-clause-only
+keyed-returns-in_default-clause-only t c = keyed_no c.args.key c.args.colon c.args.value (made_no CoversSlot _ c.args.value c.into_inner.ensures _ (none_of _ c.in_default.not-Some) c.in_ok-slot.ensures.only)
+
+pub keyed-returns-clause-found : goal.keyed-returns-clause-found
+keyed-returns-clause-found t c =
+    keyed_made c.args.key c.args.colon c.args.value c.in-Some.slot (has_made CoversSlot _ c.args.value c.into_inner.ensures _ c.in-Some.slot c.in-Some.is c.in_ok-slot.ensures.found)
+
+pub keyed-returns-clause-only : goal.keyed-returns-clause-only
+keyed-returns-clause-only t c = keyed_one c.args.key c.args.colon c.args.value c.in-Some.slot (made_one CoversSlot _ c.args.value c.into_inner.ensures _ c.in-Some.slot c.in-Some.is c.in_ok-slot.ensures.only)
+
+pub named-slot_of-requires : goal.named-slot_of-requires
+named-slot_of-requires t c =
+    let same = ap (λ (x : Expr). (expr x).height) c.into_inner.ensures in
+    (omega (arith, same), tt)
+
+pub named-returns-in_default-clause-only : goal.named-returns-in_default-clause-only
+named-returns-in_default-clause-only t c = named_no c.args.value (made_no CoversSlot _ c.args.value c.into_inner.ensures _ (none_of _ c.in_default.not-Some) c.in_ok-slot.ensures.only)
+
+pub named-returns-then-not-is_named-clause-only : goal.named-returns-then-not-is_named-clause-only
+named-returns-then-not-is_named-clause-only t c =
+    named_no_name c.args.value c.in-Some.slot (made_one CoversSlot _ c.args.value c.into_inner.ensures _ c.in-Some.slot c.in-Some.is c.in_ok-slot.ensures.only) (sym c.is_named.ensures ∙ c.if-not-is_named.true)
+
+pub named-returns-clause-found : goal.named-returns-clause-found
+named-returns-clause-found t c =
+    named_made c.args.value c.in-Some.slot (has_made CoversSlot _ c.args.value c.into_inner.ensures _ c.in-Some.slot c.in-Some.is c.in_ok-slot.ensures.found) (sym c.is_named.ensures ∙ c.if-not-is_named.false)
+
+pub named-returns-clause-only : goal.named-returns-clause-only
+named-returns-clause-only t c = named_one c.args.value c.in-Some.slot (made_one CoversSlot _ c.args.value c.into_inner.ensures _ c.in-Some.slot c.in-Some.is c.in_ok-slot.ensures.only)
+
+pub rest-slot_of-requires : goal.rest-slot_of-requires
+rest-slot_of-requires t c =
+    let same = ap (λ (x : Expr). (expr x).height) c.into_inner.ensures in
+    (omega (arith, same), tt)
+
+pub rest-returns-in_default-clause-only : goal.rest-returns-in_default-clause-only
+rest-returns-in_default-clause-only t c = rest_no c.args.dots c.args.value (made_no CoversSlot _ c.args.value c.into_inner.ensures _ (none_of _ c.in_default.not-Some) c.in_ok-slot.ensures.only)
+
+pub rest-returns-then-not-is_alone-clause-only : goal.rest-returns-then-not-is_alone-clause-only
+rest-returns-then-not-is_alone-clause-only t c =
+    rest_no_alone c.args.dots c.args.value c.in-Some.slot (made_one CoversSlot _ c.args.value c.into_inner.ensures _ c.in-Some.slot c.in-Some.is c.in_ok-slot.ensures.only) (sym c.is_alone.ensures ∙ c.if-not-is_alone.true)
+
+pub rest-returns-clause-found : goal.rest-returns-clause-found
+rest-returns-clause-found t c =
+    rest_made c.args.dots c.args.value c.in-Some.slot (has_made CoversSlot _ c.args.value c.into_inner.ensures _ c.in-Some.slot c.in-Some.is c.in_ok-slot.ensures.found) (sym c.is_alone.ensures ∙ c.if-not-is_alone.false)
+
+pub rest-returns-clause-only : goal.rest-returns-clause-only
+rest-returns-clause-only t c = rest_one c.args.dots c.args.value c.in-Some.slot (made_one CoversSlot _ c.args.value c.into_inner.ensures _ c.in-Some.slot c.in-Some.is c.in_ok-slot.ensures.only)
+
+pub property-keyed-requires : goal.property-keyed-requires
+property-keyed-requires t c =
+    let n = c.in-Pair in
+    let low = pair_high c.args.property n.key n.colon n.value (ap out-Property n.is ∙ value_of.outs-Pair n.key n.colon n.value) in
+    (omega (arith, low), tt)
+
+pub property-named-requires : goal.property-named-requires
+property-named-requires t c =
+    let n = c.in-Shorthand in
+    let low = shorthand_high c.args.property n.value (ap out-Property n.is ∙ value_of.outs-Shorthand n.value) in
+    (omega (arith, low), tt)
+
+pub property-rest-requires : goal.property-rest-requires
+property-rest-requires t c =
+    let n = c.in-Spread in
+    let low = spread_high c.args.property n.dots n.value (ap out-Property n.is ∙ value_of.outs-Spread n.dots n.value) in
+    (omega (arith, low), tt)
+
+pub property-returns-in-Pair-clause-found : goal.property-returns-in-Pair-clause-found
+property-returns-in-Pair-clause-found t c = subst (λ (x : Property). Makes c.keyed.result (CoversProperty x)) (sym c.in-Pair.is) c.keyed.ensures.found
+
+pub property-returns-in-Pair-clause-only : goal.property-returns-in-Pair-clause-only
+property-returns-in-Pair-clause-only t c = subst (λ (x : Property). MakesOnly c.keyed.result (CoversProperty x)) (sym c.in-Pair.is) c.keyed.ensures.only
+
+pub property-returns-in-Shorthand-clause-found : goal.property-returns-in-Shorthand-clause-found
+property-returns-in-Shorthand-clause-found t c = subst (λ (x : Property). Makes c.named.result (CoversProperty x)) (sym c.in-Shorthand.is) c.named.ensures.found
+
+pub property-returns-in-Shorthand-clause-only : goal.property-returns-in-Shorthand-clause-only
+property-returns-in-Shorthand-clause-only t c = subst (λ (x : Property). MakesOnly c.named.result (CoversProperty x)) (sym c.in-Shorthand.is) c.named.ensures.only
+
+pub property-returns-in-Spread-clause-found : goal.property-returns-in-Spread-clause-found
+property-returns-in-Spread-clause-found t c = subst (λ (x : Property). Makes c.rest.result (CoversProperty x)) (sym c.in-Spread.is) c.rest.ensures.found
+
+pub property-returns-in-Spread-clause-only : goal.property-returns-in-Spread-clause-only
+property-returns-in-Spread-clause-only t c = subst (λ (x : Property). MakesOnly c.rest.result (CoversProperty x)) (sym c.in-Spread.is) c.rest.ensures.only
+
+pub last_property-property-requires : goal.last_property-property-requires
+last_property-property-requires t c =
+    let same = ap (may_high value_height) c.in-Some.is in
+    (omega (arith, same), tt)
+
+pub last_property-returns-in_default-clause-found : goal.last_property-returns-in_default-clause-found
+last_property-returns-in_default-clause-found t c = may_none CoversProperty c.args.last (none_of _ c.in_default.not-Some)
+
+pub last_property-returns-in_default-clause-only : goal.last_property-returns-in_default-clause-only
+last_property-returns-in_default-clause-only t c = may_none_one CoversProperty c.args.last (none_of _ c.in_default.not-Some)
+
+pub last_property-returns-in_default-2-clause-only : goal.last_property-returns-in_default-2-clause-only
+last_property-returns-in_default-2-clause-only t c =
+    may_some_no CoversProperty c.args.last c.in-Some.item c.in-Some.is (made_no CoversProperty _ _ refl _ (none_of _ c.in_default-2.not-Some) c.in_ok-item.ensures.only)
+
+pub last_property-returns-clause-found : goal.last_property-returns-clause-found
+last_property-returns-clause-found t c =
+    may_some CoversProperty c.args.last c.in-Some.item c.in-Some-2.item c.in-Some.is (has_made CoversProperty _ _ refl _ c.in-Some-2.item c.in-Some-2.is c.in_ok-item.ensures.found)
+
+pub last_property-returns-clause-only : goal.last_property-returns-clause-only
+last_property-returns-clause-only t c =
+    may_some_one CoversProperty c.args.last c.in-Some.item c.in-Some-2.item c.in-Some.is (made_one CoversProperty _ _ refl _ c.in-Some-2.item c.in-Some-2.is c.in_ok-item.ensures.only)
+
+pub front_properties-loop-listed-init : goal.front_properties-loop-listed-init
+front_properties-loop-listed-init t c =
+    let e = c.in_ok-left.ensures {u = tt} in
+    record {
+      halfway = loop_start CoversProperty c.args.front _ _ e c.new-properties.ensures;
+      low = start_low value_height c.args.front _ e;
+    }
+
+pub front_properties-property-requires : goal.front_properties-property-requires
+front_properties-property-requires t c =
+    let low = next_low value_height _ c.loop-listed.left _ c.in-Some.listed c.in-Some.ensures c.loop-listed.invariant.low in
+    (omega (arith, low), tt)
+
+pub front_properties-returns-in_default-clause-only : goal.front_properties-returns-in_default-clause-only
+front_properties-returns-in_default-clause-only t c =
+    loop_none CoversProperty c.args.front c.loop-listed.left _ c.loop-listed.properties c.in-Some.listed c.in-Some.ensures c.loop-listed.invariant.halfway
+    (made_no CoversProperty _ _ refl _ (none_of _ c.in_default.not-Some) c.in_ok-item.ensures.only)
+
+pub front_properties-loop-listed-smaller : goal.front_properties-loop-listed-smaller
+front_properties-loop-listed-smaller t c = taken_shorter _ _ c.in-Some.listed c.in-Some.ensures
+
+pub front_properties-loop-listed-preserved : goal.front_properties-loop-listed-preserved
+front_properties-loop-listed-preserved t c = record {
+  halfway = loop_next CoversProperty c.args.front c.loop-listed.left _ c.loop-listed.properties _ c.in-Some.listed c.in-Some-2.item c.in-Some.ensures c.in_ok-push.ensures.ok c.loop-listed.invariant.halfway
+      (has_made CoversProperty _ _ refl _ c.in-Some-2.item c.in-Some-2.is c.in_ok-item.ensures.found) (made_one CoversProperty _ _ refl _ c.in-Some-2.item c.in-Some-2.is c.in_ok-item.ensures.only);
+  low = rest_low value_height _ c.loop-listed.left _ c.in-Some.listed c.in-Some.ensures c.loop-listed.invariant.low;
+}
+
+pub front_properties-returns-clause-found : goal.front_properties-returns-clause-found
+front_properties-returns-clause-found t c = loop_found CoversProperty c.args.front c.loop-listed.left c.loop-listed.properties c.in-None.ensures.0 c.loop-listed.invariant.halfway
+
+pub front_properties-returns-clause-only : goal.front_properties-returns-clause-only
+front_properties-returns-clause-only t c = loop_only CoversProperty c.args.front c.loop-listed.left c.loop-listed.properties c.in-None.ensures.0 c.loop-listed.invariant.halfway
+
+-- OBJECTS
+
+pub object_properties-front_properties-requires : goal.object_properties-front_properties-requires
+object_properties-front_properties-requires t c = (omega arith, tt)
+
+pub object_properties-last_property-requires : goal.object_properties-last_property-requires
+object_properties-last_property-requires t c = (omega arith, tt)
+
+pub object_properties-returns-in_default-clause-only : goal.object_properties-returns-in_default-clause-only
+object_properties-returns-in_default-clause-only t c =
+    bracket_no_front CoversProperty c.args.properties (made_no (EachPair CoversProperty) _ _ refl _ (none_of _ c.in_default.not-Some) c.in_ok-front.ensures.only)
+
+pub object_properties-returns-in_default-2-clause-only : goal.object_properties-returns-in_default-2-clause-only
+object_properties-returns-in_default-2-clause-only t c =
+    bracket_no_last CoversProperty c.args.properties (made_no (MayPair CoversProperty) _ _ refl _ (none_of _ c.in_default-2.not-Some) c.in_ok-last.ensures.only)
+
+pub object_properties-returns-clause-found : goal.object_properties-returns-clause-found
+object_properties-returns-clause-found t c =
+    bracket_of CoversProperty c.args.properties c.in-Some.front c.in-Some-2.last (has_made (EachPair CoversProperty) _ _ refl _ c.in-Some.front c.in-Some.is c.in_ok-front.ensures.found)
+    (has_made (MayPair CoversProperty) _ _ refl _ c.in-Some-2.last c.in-Some-2.is c.in_ok-last.ensures.found)
+
+pub object_properties-returns-clause-only : goal.object_properties-returns-clause-only
+object_properties-returns-clause-only t c =
+    bracket_one CoversProperty c.args.properties c.in-Some.front c.in-Some-2.last (made_one (EachPair CoversProperty) _ _ refl _ c.in-Some.front c.in-Some.is c.in_ok-front.ensures.only)
+    (made_one (MayPair CoversProperty) _ _ refl _ c.in-Some-2.last c.in-Some-2.is c.in_ok-last.ensures.only)
+
+pub object_pattern-object_properties-requires : goal.object_pattern-object_properties-requires
+object_pattern-object_properties-requires t c =
+    let same = ap (bracket_high value_height) c.into_inner.ensures in
+    (omega (arith, same), tt)
+
+pub object_pattern-returns-in_default-clause-only : goal.object_pattern-returns-in_default-clause-only
+object_pattern-returns-in_default-clause-only t c =
+    object_no c.args.properties (made_no (InPairs CoversProperty) _ c.args.properties c.into_inner.ensures _ (none_of _ c.in_default.not-Some) c.in_ok-properties.ensures.only)
+
+pub object_pattern-returns-then-not-have_no_rest-clause-only : goal.object_pattern-returns-then-not-have_no_rest-clause-only
+object_pattern-returns-then-not-have_no_rest-clause-only t c =
+    object_no_end c.args.properties c.in-Some.properties (made_one (InPairs CoversProperty) _ c.args.properties c.into_inner.ensures _ c.in-Some.properties c.in-Some.is c.in_ok-properties.ensures.only)
+    (ap (list_all (λ (x : Listed PatternProperty). is_no_rest (out-PatternProperty x.item))) (sym c.as_slice.ensures) ∙ sym c.have_no_rest.ensures ∙ c.if-not-have_no_rest.true)
+
+pub object_pattern-returns-clause-found : goal.object_pattern-returns-clause-found
+object_pattern-returns-clause-found t c =
+    object_made c.args.properties c.in-Some.properties _ c.in_ok-new.ensures
+    (has_made (InPairs CoversProperty) _ c.args.properties c.into_inner.ensures _ c.in-Some.properties c.in-Some.is c.in_ok-properties.ensures.found)
+    (ap (list_all (λ (x : Listed PatternProperty). is_no_rest (out-PatternProperty x.item))) (sym c.as_slice.ensures) ∙ sym c.have_no_rest.ensures ∙ c.if-not-have_no_rest.false)
+
+pub object_pattern-returns-clause-only : goal.object_pattern-returns-clause-only
+object_pattern-returns-clause-only t c =
+    object_one c.args.properties c.in-Some.properties _ c.in_ok-new.ensures
+    (made_one (InPairs CoversProperty) _ c.args.properties c.into_inner.ensures _ c.in-Some.properties c.in-Some.is c.in_ok-properties.ensures.only)
