@@ -1,5 +1,5 @@
 -- What is answered, by what was answered of the parts.
-use Rattle.std.proofs.Common.{◌≡◌, List, refl, sym, ap, ◌∙◌, subst, Option, Some, None, Result, Ok}
+use Rattle.std.proofs.Common.{◌≡◌, List, refl, sym, ap, ◌∙◌, subst, Option, Some, None, Ok, IfSome}
 use Rattle.js_tree.specs.declared.lists.Bracket.{Bracket}
 use Rattle.js_tree.specs.declared.lists.Element.{Element}
 use Rattle.js_tree.specs.declared.lists.Listed.{Listed}
@@ -22,6 +22,15 @@ module _ {I A : Type 0} (P : I → A → Type 0) (i j : I) (same : i ≡ j) (o :
 
   pub made_no : o ≡ None → MakesOnly {A} {Unit {0}} (Ok o) (P i) → No (P j)
   made_no e only y p = subst (λ (z : Option A). MakesThis {A} {Unit {0}} (Ok z) y) e (only y (subst (λ (z : I). P z y) (sym same) p))
+
+-- what an option is answers the same in a call that may fail
+module _ {I A : Type 0} (P : I → A → Type 0) (i j : I) (same : i ≡ j) where
+  pub some_found : (o : Option A) → IfSome o (P i) → Makes {A} {Unit {0}} (Ok o) (P j)
+  some_found None m = tt
+  some_found (Some x) m = subst (λ (z : I). P z x) same m
+
+  pub some_only : (o : Option A) → ((y : A) → P i y → o ≡ Some y) → MakesOnly {A} {Unit {0}} (Ok o) (P j)
+  some_only o f y p = subst (λ (z : Option A). MakesThis {A} {Unit {0}} (Ok z) y) (sym (f y (subst (λ (z : I). P z y) (sym same) p))) refl
 
 -- ITEMS THAT MAY BE THERE
 

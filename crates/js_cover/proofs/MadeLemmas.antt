@@ -18,10 +18,12 @@ use Rattle.js_tree.specs.declared.tree.Property.TheVariants as value_of
 use Rattle.js_tree.specs.declared.tree.Slot.{Slot, out-Slot, out-roll-Slot}
 use Rattle.js_tree.specs.Folds.{ExprLayer, SlotLayer}
 use Rattle.js_tree.specs.Pieces.{kind as kind_at}
-use Rattle.js_tree.specs.Spelling.{expr}
+use Rattle.js_tree.specs.Spelling.{expr, slot}
+use Rattle.js_tree.specs.Spelling.Nodes.{all_within}
+use Rattle.js_tree.specs.Spelling.Patterns.{is_declared}
 use Rattle.js_tree.specs.TokenKinds.{is as is_kind}
-use Rattle.js_cover.specs.Covers.{SlotBy, Alone, WithInit, PropertyBy, KeyedBy, NamedBy, RestBy, PatternBy, NameBy, MemberBy, ParenBy, ArrayBy, ObjectBy, Covers, CoversSlot, CoversProperty, is_alone, is_assign, is_named, is_place, properties_end, slots_end}
-use Rattle.js_cover.specs.Pairs.{InPairs, ItemPair}
+use Rattle.js_cover.specs.Covers.{SlotBy, Alone, WithInit, PropertyBy, KeyedBy, NamedBy, RestBy, PatternBy, NameBy, MemberBy, ParenBy, ArrayBy, ObjectBy, Covers, CoversDeclared, CoversParameters, CoversSlot, CoversProperty, is_alone, is_assign, is_named, is_place, parameters_end, properties_end, slots_end}
+use Rattle.js_cover.specs.Pairs.{ElementPair, InPairs, ItemPair}
 use Rattle.js_cover.proofs.CoverLemmas.{closes, opens}
 use Rattle.js_cover.proofs.ViewLemmas.{alone_covers, array_covers, init_covers, member_covers, name_covers, nothing_covered, object_covers, pair_covers, paren_covers, shorthand_covers, slot_alone, slot_with, spread_covers}
 
@@ -226,3 +228,28 @@ module _ (dots : Token) (value : Expr) where
   rest_no_alone s one other p c =
       let v = spread_covers (value_of.Spread dots value) p dots value (value_of.outs-Spread dots value) c in
       true≢false (sym v.alone ∙ ap is_alone (sym (one v.slot v.covers)) ∙ other)
+
+-- WHAT IS DECLARED
+
+module _ (x : Expr) where
+  pub declared_no : No (CoversSlot x) → No (CoversDeclared x)
+  declared_no none s d = none s d.covers
+
+  pub declared_no_other : (s : Slot) → One (CoversSlot x) s → is_declared (slot s) ≡ false → No (CoversDeclared x)
+  declared_no_other s one other t d = true≢false (sym d.declared ∙ ap (λ (z : Slot). is_declared (slot z)) (sym (one t d.covers)) ∙ other)
+
+  pub declared_one : (s : Slot) → One (CoversSlot x) s → One (CoversDeclared x) s
+  declared_one s one t d = one t d.covers
+
+module _ (b : Bracket (Element Expr)) where
+  pub parameters_no : No (InPairs (ElementPair CoversSlot) b) → No (CoversParameters b)
+  parameters_no none d p = none d p.covers
+
+  pub parameters_no_end : (d : Bracket (Element Slot)) → One (InPairs (ElementPair CoversSlot) b) d → parameters_end d ≡ false → No (CoversParameters b)
+  parameters_no_end d one other e p = true≢false (sym p.ends ∙ ap parameters_end (sym (one e p.covers)) ∙ other)
+
+  pub parameters_no_other : (d : Bracket (Element Slot)) → One (InPairs (ElementPair CoversSlot) b) d → all_within (λ (x : Element Slot). is_declared (slot x.value)) d ≡ false → No (CoversParameters b)
+  parameters_no_other d one other e p = true≢false (sym p.declared ∙ ap (all_within (λ (x : Element Slot). is_declared (slot x.value))) (sym (one e p.covers)) ∙ other)
+
+  pub parameters_one : (d : Bracket (Element Slot)) → One (InPairs (ElementPair CoversSlot) b) d → One (CoversParameters b) d
+  parameters_one d one e p = one e p.covers

@@ -1,5 +1,5 @@
 -- What is made of items in round brackets.
-use Rattle.std.proofs.Common.{◌≡◌, List, [], ◌∷◌, ◌++◌, Bool, true, false, refl, sym, ap, ◌∙◌, append_assoc, reverse, Option, Some, None, true≢false}
+use Rattle.std.proofs.Common.{◌≡◌, ℕ, ◌+◌, List, [], ◌∷◌, ◌++◌, Bool, true, false, refl, sym, ap, ◌∙◌, subst, append_assoc, reverse, Option, Some, None, IfSome, true≢false}
 use Rattle.std.specs.List.{list_all}
 use Rattle.js_tree.specs.declared.lists.Bracket.{Bracket}
 use Rattle.js_tree.specs.declared.lists.Element.{Element}
@@ -9,10 +9,12 @@ use Rattle.js_tree.specs.declared.tree.Expr.{Expr, out-Expr, roll-Expr, roll-out
 use Rattle.js_tree.specs.declared.tree.Expr.TheOpen.{Expr-F}
 use Rattle.js_tree.specs.declared.tree.Expr.TheVariants as expression
 use Rattle.js_tree.specs.Folds.{ExprLayer}
-use Rattle.js_tree.specs.Spelling.Nodes.{is_empty, is_plain}
-use Rattle.js_cover.specs.Parens.{IsParen, OfOne, OfSeveral, first_of, others_of}
+use Rattle.js_tree.specs.Spelling.{expr}
+use Rattle.js_tree.specs.Spelling.Nodes.{Seen, is_empty, is_plain}
+use Rattle.js_tree.proofs.SpellingLemmas.{at_expr}
+use Rattle.js_cover.specs.Parens.{IsParen, IsRound, LastIs, OfOne, OfSeveral, first_of, highest_item, others_of}
 use Rattle.js_cover.proofs.LoopLemmas.{from_end}
-use Rattle.js_cover.proofs.ParenLemmas.{first_more, others_more}
+use Rattle.js_cover.proofs.ParenLemmas.{first_more, one_height, others_more, several_height}
 
 -- IN THE LOOP
 
@@ -99,3 +101,35 @@ module _ (b : Bracket (Element Expr)) (last : Element Expr) (ends : b.last ≡ S
       (expression.rolls-Comma (first_of b.front l.value) (others_of b.front l.value)) c in
       ap (λ (f : Expr). expression.Paren b.«open» f b.close) comma
       ∙ rolled x (Expr-F.«Expr::Paren» b.«open» y b.close) (expression.Paren b.«open» y b.close) (expression.rolls-Paren b.«open» y b.close) o
+
+  one_front : others ≡ [] → b.front ≡ []
+  one_front none = no_front b.front last.value (sym goes ∙ none)
+
+  one_is : others ≡ [] → out-Expr (expression.Paren b.«open» first b.close) ≡ Expr-F.«Expr::Paren» b.«open» last.value b.close
+  one_is none =
+      expression.outs-Paren b.«open» first b.close
+      ∙ ap (λ (f : Expr). Expr-F.«Expr::Paren» b.«open» f b.close) (begins ∙ ap (λ (xs : List (Listed (Element Expr))). first_of xs last.value) (one_front none))
+
+  pub one_round : is_plain last ≡ true → others ≡ [] → (highest : ℕ) → highest ≡ highest_item b → (target : Bool) → LastIs target b
+      → IsRound b (record { node = expression.Paren b.«open» first b.close; height = highest + 1; is_target = target })
+  one_round plain none highest high target last_is =
+      let x = expression.Paren b.«open» first b.close in
+      let given : target ≡ (expr last.value).is_target = subst (λ (o : Option (Element Expr)). IfSome o (λ y. target ≡ (expr y.value).is_target)) ends last_is in
+      record {
+        paren = one_made plain none;
+        height = ap (λ n. n + 1) high ∙ one_height b x last ends (one_front none) (one_is none);
+        target = given ∙ sym (ap (λ (z : Seen). z.is_target) (at_expr x (Expr-F.«Expr::Paren» b.«open» last.value b.close) (one_is none)));
+      }
+
+  pub several_round : (inner : Expr) → inner ≡ expression.Comma first others → is_plain last ≡ true → list_all (λ (y : Listed (Element Expr)). is_plain y.item) b.front ≡ true → (others ≡ [] → ⊥)
+      → (highest : ℕ) → highest ≡ highest_item b → IsRound b (record { node = expression.Paren b.«open» inner b.close; height = highest + 2; is_target = false })
+  several_round inner is plain all some highest high =
+      let x = expression.Paren b.«open» inner b.close in
+      let o = expression.outs-Paren b.«open» inner b.close in
+      let comma : out-Expr inner ≡ Expr-F.Comma (first_of b.front last.value) (others_of b.front last.value) = ap out-Expr is ∙ expression.outs-Comma first others ∙ (λ i. Expr-F.Comma (begins i) (goes i)) in
+      record {
+        paren = several_made inner is plain all some;
+        height = ap (λ n. n + 2) high ∙ several_height b x inner last ends comma o;
+        target = sym (ap (λ (z : Seen). z.is_target) (at_expr x (Expr-F.«Expr::Paren» b.«open» inner b.close) o)
+            ∙ ap (λ (z : Seen). z.is_target) (at_expr inner (Expr-F.Comma (first_of b.front last.value) (others_of b.front last.value)) comma));
+      }

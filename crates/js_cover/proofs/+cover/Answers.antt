@@ -13,7 +13,7 @@ use Rattle.js_cover.specs.Answers.{Makes, MakesOnly}
 use Rattle.js_cover.specs.Covers.{Covers, CoversProperty, CoversSlot, is_no_rest}
 use Rattle.js_cover.specs.Heights.{bracket_high, front_high, may_high}
 use Rattle.js_cover.specs.Pairs.{EachPair, ElementPair, InPairs, ItemPair, MayPair}
-use Rattle.js_cover.proofs.AnswerLemmas.{bracket_no_front, bracket_no_last, bracket_of, bracket_one, element_no, element_of, element_one, has_made, made_no, made_one, may_none, may_none_one, may_some, may_some_no, may_some_one, none_of}
+use Rattle.js_cover.proofs.AnswerLemmas.{bracket_no_front, bracket_no_last, bracket_of, bracket_one, element_no, element_of, element_one, has_made, made_no, made_one, may_none, may_none_one, may_some, may_some_no, may_some_one, none_of, some_found, some_only}
 use Rattle.js_cover.proofs.LoopLemmas.{loop_found, loop_next, loop_none, loop_only, loop_start, next_low, rest_low, start_low, taken_shorter}
 use Rattle.js_cover.proofs.MadeLemmas.{One, alone_made, alone_no, alone_one, array_made, array_no, array_no_end, array_one, keyed_made, keyed_no, keyed_one, name_made, name_one, named_made, named_no, named_no_name, named_one, no_assign, object_made, object_no, object_no_end, object_one, others_no, paren_made, paren_no, paren_no_place, paren_one, rest_made, rest_no, rest_no_alone, rest_one}
 use Rattle.js_cover.proofs.MeasureLemmas.{array_high, object_high, pair_high, paren_high, shorthand_high, spread_high}
@@ -101,10 +101,10 @@ paren_pattern-returns-clause-only t c =
 -- SLOTS
 
 pub slot_of-returns-in-Assign-clause-found : goal.slot_of-returns-in-Assign-clause-found
-slot_of-returns-in-Assign-clause-found t c = ?
+slot_of-returns-in-Assign-clause-found t c = some_found CoversSlot _ c.args.cover (sym c.in-Assign.is) c.slot_with_init.result c.slot_with_init.ensures.found
 
 pub slot_of-returns-in-Assign-clause-only : goal.slot_of-returns-in-Assign-clause-only
-slot_of-returns-in-Assign-clause-only t c = ?
+slot_of-returns-in-Assign-clause-only t c = some_only CoversSlot _ c.args.cover (sym c.in-Assign.is) c.slot_with_init.result c.slot_with_init.ensures.only
 
 pub slot_of-slot_alone-requires : goal.slot_of-slot_alone-requires
 slot_of-slot_alone-requires t c =
