@@ -79,3 +79,14 @@ pub rest_high : (p : PatternProperty) (dots : Token) (s : Slot) → out-PatternP
 rest_high p dots s e =
     let h : (pattern_property p).height ≡ max (slot s).height 0 = property_up_to p (PatternProperty-F.Rest dots s) e in
     omega (arith, h)
+
+-- WHAT MAY BE DECLARED OF PROPERTIES
+
+pub keyed_declared : (p : PatternProperty) (k : Key) (colon : Token) (s : Slot) → out-PatternProperty p ≡ PatternProperty-F.Keyed k colon s → is_declared (pattern_property p) ≡ is_declared (slot s)
+keyed_declared p k colon s e = ap is_declared (at_pattern_property p (PatternProperty-F.Keyed k colon s) e)
+
+pub named_declared : (p : PatternProperty) (s : Slot) → out-PatternProperty p ≡ PatternProperty-F.Named s → is_declared (pattern_property p) ≡ is_declared (slot s)
+named_declared p s e = ap is_declared (at_pattern_property p (PatternProperty-F.Named s) e)
+
+pub rest_declared : (p : PatternProperty) (dots : Token) (s : Slot) → out-PatternProperty p ≡ PatternProperty-F.Rest dots s → is_declared (pattern_property p) ≡ is_declared (slot s)
+rest_declared p dots s e = ap is_declared (at_pattern_property p (PatternProperty-F.Rest dots s) e)
