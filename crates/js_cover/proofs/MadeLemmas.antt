@@ -15,7 +15,7 @@ use Rattle.js_tree.specs.declared.tree.PatternProperty.{PatternProperty}
 use Rattle.js_tree.specs.declared.tree.PatternProperty.TheVariants as named
 use Rattle.js_tree.specs.declared.tree.Property.{Property}
 use Rattle.js_tree.specs.declared.tree.Property.TheVariants as value_of
-use Rattle.js_tree.specs.declared.tree.Slot.{Slot, out-Slot, out-roll-Slot}
+use Rattle.js_tree.specs.declared.tree.Slot.{Slot, out-Slot, out-roll-Slot, roll-Slot, roll-out-Slot}
 use Rattle.js_tree.specs.Folds.{ExprLayer, SlotLayer}
 use Rattle.js_tree.specs.Pieces.{kind as kind_at}
 use Rattle.js_tree.specs.Spelling.{expr, slot}
@@ -156,14 +156,16 @@ module _ (b : Bracket Property) where
 
 -- SLOTS
 
+module _ (target : Pattern) (op : Token) (value : Expr) (slot : Slot) (is : out-Slot slot ≡ record { target = target; init = Some (record { equals = op; value = value }) }) where
+  pub init_made : is_kind kind.Assign (kind_at op) ≡ true → CoversSlot (expression.Assign target op value) slot
+  init_made equals = WithInit target op value (expression.outs-Assign target op value) equals is
+
+  pub init_one : One (CoversSlot (expression.Assign target op value)) slot
+  init_one s c =
+      let v = init_covers (expression.Assign target op value) s target op value (expression.outs-Assign target op value) c in
+      sym (roll-out-Slot slot) ∙ ap roll-Slot is ∙ v.is
+
 module _ (target : Pattern) (op : Token) (value : Expr) where
-  pub init_made : is_kind kind.Assign (kind_at op) ≡ true → CoversSlot (expression.Assign target op value) (slot_with target op value)
-  init_made equals =
-      WithInit target op value (expression.outs-Assign target op value) equals (out-roll-Slot (record { target = target; init = Some (record { equals = op; value = value }) }))
-
-  pub init_one : One (CoversSlot (expression.Assign target op value)) (slot_with target op value)
-  init_one s c = let v = init_covers (expression.Assign target op value) s target op value (expression.outs-Assign target op value) c in v.is
-
   pub init_no : is_kind kind.Assign (kind_at op) ≡ false → No (CoversSlot (expression.Assign target op value))
   init_no other s c =
       let v = init_covers (expression.Assign target op value) s target op value (expression.outs-Assign target op value) c in

@@ -1,5 +1,5 @@
 //! Patterns of what was read as arrays (ECMA-262, 12.15.5 and 13.3.3).
-ghost use Rattle.std.specs.Prelude.{◌≡◌, ◌&&◌, is_some};
+ghost use Rattle.std.specs.Prelude.{◌≡◌, ◌&&◌, ◌++◌, ◌∷◌, [], OnOk, is_some};
 ghost use Rattle.std.specs.List.{list_all};
 ghost use Rattle.std.specs.Prelude as prelude;
 ghost use Rattle.js_tree.specs.declared.lists.Element.{Element};
@@ -14,7 +14,7 @@ ghost use Rattle.js_cover.specs.Pairs.{EachPair, ElementPair, InPairs, ItemPair,
 
 use crate::reversal::reversed;
 use crate::slots::{is_alone, slot_of};
-use js_tree::{Bracket, Element, Expr, Listed, Pattern, Slot};
+use js_tree::{Bracket, Element, Expr, Listed, Pattern, Slot, Token};
 use sqlite_items::{Boxed, Items};
 use std::alloc::{AllocError, Global};
 
@@ -82,9 +82,21 @@ fn front_slots(
         let Some(item) = item_slot(alloc, item)? else {
             return Ok(None);
         };
-        slots.push(Listed { item, mark })?;
+        push_item(&mut slots, item, mark)?;
     }
     Ok(Some(slots))
+}
+
+// Adds a slot or a hole, with the comma behind it.
+fn push_item(
+    slots: &mut Items<Listed<Option<Element<Slot>>>>,
+    item: Option<Element<Slot>>,
+    mark: Token,
+) -> Result<(), AllocError>
+    ensures { OnOk result (slots.new ≡ slots.old ++ record { item = item; mark = mark } ∷ []) }
+{
+    slots.push(Listed { item, mark })?;
+    Ok(())
 }
 
 // The slot of the item without a comma behind it, where there is one.

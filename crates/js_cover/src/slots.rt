@@ -1,6 +1,7 @@
 //! Slots of what was read as expressions (ECMA-262, 12.15.5 and 13.3.3).
-ghost use Rattle.std.specs.Prelude.{◌≡◌, IfSome, false};
+ghost use Rattle.std.specs.Prelude.{◌≡◌, IfSome, Some, false};
 ghost use Rattle.js_tree.specs.declared.tree.Pattern.{out-Pattern};
+ghost use Rattle.js_tree.specs.declared.tree.Slot.{out-Slot};
 ghost use Rattle.js_tree.specs.declared.tree.Expr.{out-Expr};
 ghost use Rattle.js_tree.specs.declared.tree.Expr.TheVariants as expression;
 ghost use Rattle.js_cover.specs.Answers.{Makes, MakesOnly};
@@ -34,10 +35,17 @@ fn slot_with_init(target: Boxed<Pattern>, op: Token, value: Boxed<Expr>) -> Opti
     if !is_equals(&op) {
         return None;
     }
-    Some(Slot {
-        target: target.into_inner(),
-        init: Some(Init { equals: op, value }),
-    })
+    Some(slot_of_parts(target.into_inner(), op, value))
+}
+
+// The slot of a pattern that is given this value.
+fn slot_of_parts(target: Pattern, equals: Token, value: Boxed<Expr>) -> Slot
+    ensures { out-Slot result ≡ record { target = target; init = Some (record { equals = equals; value = value }) } }
+{
+    Slot {
+        target,
+        init: Some(Init { equals, value }),
+    }
 }
 
 // A pattern alone.

@@ -212,7 +212,7 @@ front_slots-loop-listed-smaller t c = taken_shorter _ _ c.in-Some.listed c.in-So
 
 pub front_slots-loop-listed-preserved : goal.front_slots-loop-listed-preserved
 front_slots-loop-listed-preserved t c = record {
-  halfway = loop_next (ItemPair CoversSlot) c.args.front c.loop-listed.left _ c.loop-listed.slots _ c.in-Some.listed c.in-Some-2.item c.in-Some.ensures c.in_ok-push.ensures.ok c.loop-listed.invariant.halfway
+  halfway = loop_next (ItemPair CoversSlot) c.args.front c.loop-listed.left _ c.loop-listed.slots _ c.in-Some.listed c.in-Some-2.item c.in-Some.ensures (c.in_ok-push_item.ensures {u = tt}) c.loop-listed.invariant.halfway
       (has_made (ItemPair CoversSlot) _ _ refl _ c.in-Some-2.item c.in-Some-2.is c.in_ok-item.ensures.found) (made_one (ItemPair CoversSlot) _ _ refl _ c.in-Some-2.item c.in-Some-2.is c.in_ok-item.ensures.only);
   low = rest_low item_height _ c.loop-listed.left _ c.in-Some.listed c.in-Some.ensures c.loop-listed.invariant.low;
 }
