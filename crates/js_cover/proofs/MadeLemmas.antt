@@ -156,14 +156,14 @@ module _ (b : Bracket Property) where
 
 -- SLOTS
 
-module _ (target : Pattern) (op : Token) (value : Expr) (slot : Slot) (is : out-Slot slot ≡ record { target = target; init = Some (record { equals = op; value = value }) }) where
-  pub init_made : is_kind kind.Assign (kind_at op) ≡ true → CoversSlot (expression.Assign target op value) slot
+module _ (target : Pattern) (op : Token) (value : Expr) (made : Slot) (is : out-Slot made ≡ record { target = target; init = Some (record { equals = op; value = value }) }) where
+  pub init_made : is_kind kind.Assign (kind_at op) ≡ true → CoversSlot (expression.Assign target op value) made
   init_made equals = WithInit target op value (expression.outs-Assign target op value) equals is
 
-  pub init_one : One (CoversSlot (expression.Assign target op value)) slot
+  pub init_one : One (CoversSlot (expression.Assign target op value)) made
   init_one s c =
       let v = init_covers (expression.Assign target op value) s target op value (expression.outs-Assign target op value) c in
-      sym (roll-out-Slot slot) ∙ ap roll-Slot is ∙ v.is
+      sym (roll-out-Slot made) ∙ ap roll-Slot is ∙ v.is
 
 module _ (target : Pattern) (op : Token) (value : Expr) where
   pub init_no : is_kind kind.Assign (kind_at op) ≡ false → No (CoversSlot (expression.Assign target op value))

@@ -1,4 +1,4 @@
-use Rattle.std.proofs.Common.{◌≡◌, sym, ap, ◌∙◌, absurd, Some}
+use Rattle.std.proofs.Common.{◌≡◌, sym, ap, ◌∙◌, Some}
 use Rattle.js_tree.specs.declared.tree.Pattern.{Pattern}
 use Rattle.js_tree.specs.declared.tree.Slot.{out-Slot}
 use Rattle.js_tree.specs.Folds.{SlotLayer}
