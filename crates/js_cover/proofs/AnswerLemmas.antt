@@ -14,23 +14,23 @@ none_of (Some x) f = absurd (f x refl)
 
 -- what was made, what alone was made, and that nothing was made, of what equals the argument
 module _ {I A : Type 0} (P : I → A → Type 0) (i j : I) (same : i ≡ j) (o : Option A) where
-  pub has_made : (x : A) → o ≡ Some x → Makes {A} {Unit {0}} (Ok o) (P i) → P j x
-  has_made x e made = subst (λ (z : I). P z x) same (subst (λ (z : Option A). Makes {A} {Unit {0}} (Ok z) (P i)) e made)
+  pub has_made : (x : A) → o ≡ Some x → Makes {E = Unit {0}} (Ok o) (P i) → P j x
+  has_made x e made = subst (λ (z : I). P z x) same (subst (λ (z : Option A). Makes {E = Unit {0}} (Ok z) (P i)) e made)
 
-  pub made_one : (x : A) → o ≡ Some x → MakesOnly {A} {Unit {0}} (Ok o) (P i) → One (P j) x
-  made_one x e only y p = subst (λ (z : Option A). MakesThis {A} {Unit {0}} (Ok z) y) e (only y (subst (λ (z : I). P z y) (sym same) p))
+  pub made_one : (x : A) → o ≡ Some x → MakesOnly {E = Unit {0}} (Ok o) (P i) → One (P j) x
+  made_one x e only y p = subst (λ (z : Option A). MakesThis {E = Unit {0}} (Ok z) y) e (only y (subst (λ (z : I). P z y) (sym same) p))
 
-  pub made_no : o ≡ None → MakesOnly {A} {Unit {0}} (Ok o) (P i) → No (P j)
-  made_no e only y p = subst (λ (z : Option A). MakesThis {A} {Unit {0}} (Ok z) y) e (only y (subst (λ (z : I). P z y) (sym same) p))
+  pub made_no : o ≡ None → MakesOnly {E = Unit {0}} (Ok o) (P i) → No (P j)
+  made_no e only y p = subst (λ (z : Option A). MakesThis {E = Unit {0}} (Ok z) y) e (only y (subst (λ (z : I). P z y) (sym same) p))
 
 -- what an option is answers the same in a call that may fail
 module _ {I A : Type 0} (P : I → A → Type 0) (i j : I) (same : i ≡ j) where
-  pub some_found : (o : Option A) → IfSome o (P i) → Makes {A} {Unit {0}} (Ok o) (P j)
+  pub some_found : (o : Option A) → IfSome o (P i) → Makes {E = Unit {0}} (Ok o) (P j)
   some_found None m = tt
   some_found (Some x) m = subst (λ (z : I). P z x) same m
 
-  pub some_only : (o : Option A) → ((y : A) → P i y → o ≡ Some y) → MakesOnly {A} {Unit {0}} (Ok o) (P j)
-  some_only o f y p = subst (λ (z : Option A). MakesThis {A} {Unit {0}} (Ok z) y) (sym (f y (subst (λ (z : I). P z y) (sym same) p))) refl
+  pub some_only : (o : Option A) → ((y : A) → P i y → o ≡ Some y) → MakesOnly {E = Unit {0}} (Ok o) (P j)
+  some_only o f y p = subst (λ (z : Option A). MakesThis {E = Unit {0}} (Ok z) y) (sym (f y (subst (λ (z : I). P z y) (sym same) p))) refl
 
 -- ITEMS THAT MAY BE THERE
 
