@@ -79,7 +79,7 @@ split_at t k xs h = or_cases (is_in t (take k xs)) (is_in t (drop k xs)) (sym (i
 pub among_first : (t k : ℕ) (xs : List ℕ) → is_in t (take k xs) ≡ true → is_in t xs ≡ true
 among_first t k xs h = ap (is_in t) (sym (take-append-drop k xs)) ∙ is_in_both t (take k xs) (drop k xs) ∙ ap (λ b. b || is_in t (drop k xs)) h
 
-among_last : (t k : ℕ) (xs : List ℕ) → is_in t (drop k xs) ≡ true → is_in t xs ≡ true
+pub among_last : (t k : ℕ) (xs : List ℕ) → is_in t (drop k xs) ≡ true → is_in t xs ≡ true
 among_last t k xs h = ap (is_in t) (sym (take-append-drop k xs)) ∙ is_in_both t (take k xs) (drop k xs) ∙ ap (λ b. is_in t (take k xs) || b) h ∙ or-true (is_in t (take k xs))
 
 -- what a way from a vertex leads to
@@ -227,7 +227,7 @@ module _ (a : System ℕ ℕ) (n : ℕ) (ways : List (Arrow ℕ)) (rows new outs
 
 -- where no vertex is pending, the rows hold the solution
 module _ (a : System ℕ ℕ) (n : ℕ) (rows outs : List (List ℕ)) (carried : List ℕ) (natives : List Bool) (inside : IsSystemIn (Below n) a) (values : HasValues a) (r : Rests a n rows outs carried [] natives) where
-  all_carried : (v : ℕ) → get_or carried v 0 ≡ length (row rows v)
+  pub all_carried : (v : ℕ) → get_or carried v 0 ≡ length (row rows v)
   all_carried v = elim (cases_lt (get_or carried v 0) (length (row rows v))) [
     | inl less ↦ absurd (none v (r.keeps.queued v less))
     | inr past ↦ (let w = r.keeps.within v in omega (arith, past, w))
@@ -236,7 +236,7 @@ module _ (a : System ℕ ℕ) (n : ℕ) (rows outs : List (List ℕ)) (carried :
   whole : (v : ℕ) → first_of rows carried v ≡ row rows v
   whole v = take_all (get_or carried v 0) (row rows v) (let e = all_carried v in omega (arith, e))
 
-  same_at : first_of rows carried ≡ row rows
+  pub same_at : first_of rows carried ≡ row rows
   same_at = λ i v. whole v i
 
   bound : (t v : ℕ) → Holds rows t v → t ≤ a.native

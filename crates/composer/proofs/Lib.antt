@@ -19,6 +19,7 @@ pub mod SeenValues
 pub mod SizeLemmas
 pub mod SolvedLemmas
 pub mod SpendLemmas
+pub mod StateLemmas
 pub mod StepLemmas
 pub mod UseLemmas
 pub mod WayLemmas

@@ -41,7 +41,7 @@ noted_there rows carried u i v ne = ap (λ b. take (cond b i (get_or carried v 0
 same_ways : (a : System ℕ ℕ) (at next : ℕ → List ℕ) (ways : List (Arrow ℕ)) (natives : List Bool) → ((v : ℕ) → next v ≡ at v) → HasWays a at ways natives → HasWays a next ways natives
 same_ways a at next ways natives same h = let e : at ≡ next = λ i v. sym (same v) i in subst (λ f. HasWays a f ways natives) e h
 
-module _ (a : System ℕ ℕ) (n : ℕ) (rows new outs later : List (List ℕ)) (carried counts pending : List ℕ) (natives : List Bool) (u to : ℕ) where
+module _ (a : System ℕ ℕ) (n : ℕ) (rows new outs : List (List ℕ)) (carried pending : List ℕ) (natives : List Bool) (u to : ℕ) where
   -- before the first, where all values of u are carried now
   pub Notes-start : (ways : List (Arrow ℕ)) → HasWays a (first_of rows carried) ways natives → length natives ≡ n → Keeps a n ways new outs (set carried u to) pending → u < length carried → get_or carried u 0 ≤ to
       → ((v : ℕ) → get_or carried v 0 ≤ length (row rows v)) → ((v : ℕ) → (more : List ℕ) × (row new v ≡ row rows v ++ more)) → Notes a n new outs (set carried u to) pending natives u (get_or carried u 0)

@@ -168,47 +168,47 @@ module _ (a : System ℕ ℕ) (values : HasValues a) (at : ℕ → List ℕ) (ha
   abbrev work : Arrow ℕ → ℕ
   work way = length (at way.from)
 
-  abbrev use : Arrow ℕ → ℕ
-  use way = count_at a has way.from
+  abbrev used : Arrow ℕ → ℕ
+  used way = count_at a has way.from
 
-  work_le : (ways : List (Arrow ℕ)) → sum_by work ways ≤ sum_by use ways
-  work_le ways = sum_le work use ways (λ way c. let e = sum_ones (at way.from) in let f = most way.from (λ t. 1) in omega (arith, e, f))
+  work_le : (ways : List (Arrow ℕ)) → sum_by work ways ≤ sum_by used ways
+  work_le ways = sum_le work used ways (λ way c. let e = sum_ones (at way.from) in let f = most way.from (λ t. 1) in omega (arith, e, f))
 
   -- what stands at a vertex gives no more ways than what the test has there
   each_at : (v : ℕ) (s : CallSite ℕ) (given : Callable ℕ ℕ → List (Arrow ℕ)) (by_value : ℕ → List (Arrow ℕ)) → ((f : Callable ℕ ℕ) → Contains a.functions f → by_value f.value ≡ given f)
-      → sum_by (λ t. sum_by work (by_value t)) (at v) ≤ sum_by use (for_each_at a has v given) + cond (has a.native v) (sum_by work (by_value a.native)) 0
+      → sum_by (λ t. sum_by work (by_value t)) (at v) ≤ sum_by used (for_each_at a has v given) + cond (has a.native v) (sum_by work (by_value a.native)) 0
   each_at v s given by_value same =
       let m : sum_by (λ t. sum_by work (by_value t)) (at v) ≤ sum_by (λ (f : Callable ℕ ℕ). cond (has f.value v) (sum_by work (by_value f.value)) 0) a.functions + cond (has a.native v) (sum_by work (by_value a.native)) 0
       = most v (λ t. sum_by work (by_value t)) in
-      let each = sum_le (λ (f : Callable ℕ ℕ). cond (has f.value v) (sum_by work (by_value f.value)) 0) (λ (f : Callable ℕ ℕ). sum_by use (cond (has f.value v) (given f) [])) a.functions one in
-      let flat : sum_by use (for_each_at a has v given) ≡ sum_by (λ (f : Callable ℕ ℕ). sum_by use (cond (has f.value v) (given f) [])) a.functions = sum_flat use (λ (f : Callable ℕ ℕ). cond (has f.value v) (given f) []) a.functions in
+      let each = sum_le (λ (f : Callable ℕ ℕ). cond (has f.value v) (sum_by work (by_value f.value)) 0) (λ (f : Callable ℕ ℕ). sum_by used (cond (has f.value v) (given f) [])) a.functions one in
+      let flat : sum_by used (for_each_at a has v given) ≡ sum_by (λ (f : Callable ℕ ℕ). sum_by used (cond (has f.value v) (given f) [])) a.functions = sum_flat used (λ (f : Callable ℕ ℕ). cond (has f.value v) (given f) []) a.functions in
       omega (arith, m, each, flat)
     where
-      by_test : (b : Bool) (x : ℕ) (ways : List (Arrow ℕ)) → x ≤ sum_by use ways → cond b x 0 ≤ sum_by use (cond b ways [])
+      by_test : (b : Bool) (x : ℕ) (ways : List (Arrow ℕ)) → x ≤ sum_by used ways → cond b x 0 ≤ sum_by used (cond b ways [])
       by_test true x ways le = le
       by_test false x ways le = omega arith
 
-      one : (f : Callable ℕ ℕ) → Contains a.functions f → cond (has f.value v) (sum_by work (by_value f.value)) 0 ≤ sum_by use (cond (has f.value v) (given f) [])
+      one : (f : Callable ℕ ℕ) → Contains a.functions f → cond (has f.value v) (sum_by work (by_value f.value)) 0 ≤ sum_by used (cond (has f.value v) (given f) [])
       one f c =
           let e : sum_by work (by_value f.value) ≡ sum_by work (given f) = ap (sum_by work) (same f c) in
           let le = work_le (given f) in
           by_test (has f.value v) (sum_by work (by_value f.value)) (given f) (omega (arith, e, le))
 
-  native_le : (s : CallSite ℕ) → sum_by work (called_ways a at s None) ≤ sum_by use (native_reasons a has s)
+  native_le : (s : CallSite ℕ) → sum_by work (called_ways a at s None) ≤ sum_by used (native_reasons a has s)
   native_le s =
       let e : sum_by work (called_ways a at s None) ≡ sum_by work (native_arrows s) + sum_by work (flat_map (input_ways a at s) (inputs s)) = sum_by-append work (native_arrows s) (flat_map (input_ways a at s) (inputs s)) in
-      let f : sum_by use (native_reasons a has s) ≡ sum_by use (native_arrows s) + sum_by use (flat_map (λ w. for_each_at a has w (callback_arrows a.elem s)) (inputs s))
-      = sum_by-append use (native_arrows s) (flat_map (λ w. for_each_at a has w (callback_arrows a.elem s)) (inputs s)) in
+      let f : sum_by used (native_reasons a has s) ≡ sum_by used (native_arrows s) + sum_by used (flat_map (λ w. for_each_at a has w (callback_arrows a.elem s)) (inputs s))
+      = sum_by-append used (native_arrows s) (flat_map (λ w. for_each_at a has w (callback_arrows a.elem s)) (inputs s)) in
       let first = work_le (native_arrows s) in
       let flat = sum_flat work (input_ways a at s) (inputs s) in
-      let flat_use = sum_flat use (λ w. for_each_at a has w (callback_arrows a.elem s)) (inputs s) in
-      let each = sum_le (λ w. sum_by work (input_ways a at s w)) (λ w. sum_by use (for_each_at a has w (callback_arrows a.elem s))) (inputs s) (λ w c. input_le w) in
+      let flat_use = sum_flat used (λ w. for_each_at a has w (callback_arrows a.elem s)) (inputs s) in
+      let each = sum_le (λ w. sum_by work (input_ways a at s w)) (λ w. sum_by used (for_each_at a has w (callback_arrows a.elem s))) (inputs s) (λ w c. input_le w) in
       omega (arith, e, f, first, flat, flat_use, each)
     where
       no_ways : (o : Option (Callable ℕ ℕ)) → o ≡ None → sum_by work (callback_ways a.elem s o) ≡ 0
       no_ways o is = ap (λ p. sum_by work (callback_ways a.elem s p)) is
 
-      input_le : (w : ℕ) → sum_by work (input_ways a at s w) ≤ sum_by use (for_each_at a has w (callback_arrows a.elem s))
+      input_le : (w : ℕ) → sum_by work (input_ways a at s w) ≤ sum_by used (for_each_at a has w (callback_arrows a.elem s))
       input_le w =
           let flat : sum_by work (input_ways a at s w) ≡ sum_by (λ t. sum_by work (callback_ways a.elem s (slice_get a.functions t))) (at w) = sum_flat work (λ t. callback_ways a.elem s (slice_get a.functions t)) (at w) in
           let each = each_at w s (callback_arrows a.elem s) (λ t. callback_ways a.elem s (slice_get a.functions t)) (λ f c. ap (callback_ways a.elem s) (value_is_place a values f c).0) in
@@ -220,29 +220,29 @@ module _ (a : System ℕ ℕ) (values : HasValues a) (at : ℕ → List ℕ) (ha
           at_zero true x is = is
           at_zero false x is = refl
 
-  site_le : (s : CallSite ℕ) → sum_by work (site_ways a at s) ≤ sum_by use (site_reasons a has s)
+  site_le : (s : CallSite ℕ) → sum_by work (site_ways a at s) ≤ sum_by used (site_reasons a has s)
   site_le s =
       let flat : sum_by work (site_ways a at s) ≡ sum_by (λ t. sum_by work (called_ways a at s (slice_get a.functions t))) (at s.callee) = sum_flat work (λ t. called_ways a at s (slice_get a.functions t)) (at s.callee) in
       let each = each_at s.callee s (call_arrows s) (λ t. called_ways a at s (slice_get a.functions t)) (λ f c. ap (called_ways a at s) (value_is_place a values f c).0) in
-      let f : sum_by use (site_reasons a has s) ≡ sum_by use (for_each_at a has s.callee (call_arrows s)) + sum_by use (cond (has a.native s.callee) (native_reasons a has s) [])
-      = sum_by-append use (for_each_at a has s.callee (call_arrows s)) (cond (has a.native s.callee) (native_reasons a has s) []) in
+      let f : sum_by used (site_reasons a has s) ≡ sum_by used (for_each_at a has s.callee (call_arrows s)) + sum_by used (cond (has a.native s.callee) (native_reasons a has s) [])
+      = sum_by-append used (for_each_at a has s.callee (call_arrows s)) (cond (has a.native s.callee) (native_reasons a has s) []) in
       let at_native : sum_by work (called_ways a at s (slice_get a.functions a.native)) ≡ sum_by work (called_ways a at s None) = ap (λ o. sum_by work (called_ways a at s o)) (native_has_none a values) in
       let le = native_le s in
       let last = by_test (has a.native s.callee) _ (native_reasons a has s) (omega (arith, at_native, le)) in
       omega (arith, flat, each, f, last)
     where
-      by_test : (b : Bool) (x : ℕ) (ways : List (Arrow ℕ)) → x ≤ sum_by use ways → cond b x 0 ≤ sum_by use (cond b ways [])
+      by_test : (b : Bool) (x : ℕ) (ways : List (Arrow ℕ)) → x ≤ sum_by used ways → cond b x 0 ≤ sum_by used (cond b ways [])
       by_test true x ways le = le
       by_test false x ways le = omega arith
 
   pub work_within_uses : sum_by (λ (way : Arrow ℕ). length (at way.from)) (all_ways a at) ≤ uses_of a has
   work_within_uses =
       let e : sum_by work (all_ways a at) ≡ sum_by work a.flows + sum_by work (flat_map (site_ways a at) a.sites) = sum_by-append work a.flows (flat_map (site_ways a at) a.sites) in
-      let f : uses_of a has ≡ sum_by use a.flows + sum_by use (flat_map (site_reasons a has) a.sites) = sum_by-append use a.flows (flat_map (site_reasons a has) a.sites) in
+      let f : uses_of a has ≡ sum_by used a.flows + sum_by used (flat_map (site_reasons a has) a.sites) = sum_by-append used a.flows (flat_map (site_reasons a has) a.sites) in
       let first = work_le a.flows in
       let flat = sum_flat work (site_ways a at) a.sites in
-      let flat_use = sum_flat use (site_reasons a has) a.sites in
-      let each = sum_le (λ s. sum_by work (site_ways a at s)) (λ s. sum_by use (site_reasons a has s)) a.sites (λ s c. site_le s) in
+      let flat_use = sum_flat used (site_reasons a has) a.sites in
+      let each = sum_le (λ s. sum_by work (site_ways a at s)) (λ s. sum_by used (site_reasons a has s)) a.sites (λ s c. site_le s) in
       omega (arith, e, f, first, flat, flat_use, each)
 
 sum_map : {X Y : Type 0} (h : X → Y) (g : Y → ℕ) (xs : List X) → sum_by g (map h xs) ≡ sum_by (λ x. g (h x)) xs

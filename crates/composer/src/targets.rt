@@ -1,5 +1,5 @@
 //! Where the ways of values lead, vertex by vertex.
-ghost use Rattle.std.specs.Prelude.{◌≡◌, ◌<◌, ◌×◌, ◌++◌, ◌∷◌, [], length, replicate, slice_set, ℕ, All, IfOk, OnOk};
+ghost use Rattle.std.specs.Prelude.{◌≡◌, ◌<◌, ◌++◌, ◌∷◌, [], length, replicate, slice_set, ℕ, All, IfOk, OnOk};
 ghost use Rattle.composer.specs.Numbered.{Below, IsArrowIn};
 ghost use Rattle.composer.specs.Rows.{row};
 ghost use Rattle.composer.specs.Work.{targets_from};

@@ -5,10 +5,10 @@ use Rattle.composer.proofs.CarryLemmas.{Offers-queued, Offers-still}
 use Rattle.composer.proofs.carry.carry.Goals as goal
 
 pub insert_each-requires-clause-vertex : goal.insert_each-requires-clause-vertex
-insert_each-requires-clause-vertex c = rw c.reserve.ensures.sets c.requires.vertex
+insert_each-requires-clause-vertex g c = rw c.reserve.ensures.sets c.requires.vertex
 
 pub returns-then-len-eq-before-clause-offers : goal.returns-then-len-eq-before-clause-offers
-returns-then-len-eq-before-clause-offers c =
+returns-then-len-eq-before-clause-offers g c =
     let i : Inserts c.args.values.now c.args.vertex c.args.sets.now.sets c.insert_each.new.sets.sets = subst (λ rows. Inserts c.args.values.now c.args.vertex rows c.insert_each.new.sets.sets) c.reserve.ensures.sets c.in_ok-insert_each.ensures.inserts in
     let before = c.len-before.ensures.length in
     let now = c.len.ensures.length in
@@ -17,7 +17,7 @@ returns-then-len-eq-before-clause-offers c =
     Offers-still c.args.values.now c.args.vertex c.args.sets.now.sets c.insert_each.new.sets.sets c.args.pending.now.items c.requires.vertex i (omega (arith, before, now, same, was))
 
 pub returns-clause-offers : goal.returns-clause-offers
-returns-clause-offers c =
+returns-clause-offers g c =
     let i : Inserts c.args.values.now c.args.vertex c.args.sets.now.sets c.insert_each.new.sets.sets = subst (λ rows. Inserts c.args.values.now c.args.vertex rows c.insert_each.new.sets.sets) c.reserve.ensures.sets c.in_ok-insert_each.ensures.inserts in
     let before = c.len-before.ensures.length in
     let now = c.len.ensures.length in

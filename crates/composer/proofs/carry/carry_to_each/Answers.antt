@@ -6,10 +6,10 @@ use Rattle.composer.proofs.CarryLemmas.{Offers-more, Offers-none}
 use Rattle.composer.proofs.carry.carry_to_each.Goals as goal
 
 pub loop-vertex-init : goal.loop-vertex-init
-loop-vertex-init c = record { offers = Offers-none c.args.values.now c.args.sets.now.sets c.args.pending.now.items; cost = grind arith }
+loop-vertex-init g c = record { offers = Offers-none c.args.values.now c.args.sets.now.sets c.args.pending.now.items; cost = grind arith }
 
 pub carry-requires-clause-vertex : goal.carry-requires-clause-vertex
-carry-requires-clause-vertex c =
+carry-requires-clause-vertex g c =
     let vertices = c.args.vertices.now in
     let i = c.loop-vertex.vertex-index in
     let e = c.loop-vertex.invariant.offers.same_length in
@@ -17,7 +17,7 @@ carry-requires-clause-vertex c =
     omega (arith, e, lt)
 
 pub loop-vertex-preserved : goal.loop-vertex-preserved
-loop-vertex-preserved c =
+loop-vertex-preserved g c =
     let vertices = c.args.vertices.now in
     let i = c.loop-vertex.vertex-index in
     record {
@@ -32,11 +32,11 @@ loop-vertex-preserved c =
     }
 
 pub returns-clause-offers : goal.returns-clause-offers
-returns-clause-offers c =
+returns-clause-offers g c =
     subst (λ xs. Offers c.args.values.now xs c.args.sets.now.sets c.args.pending.now.items c.loop-vertex.sets.sets c.loop-vertex.pending.items) (take_all c.loop-vertex.vertex-index c.args.vertices.now c.loop-vertex-test.false) c.loop-vertex.invariant.offers
 
 pub returns-clause-steps : goal.returns-clause-steps
-returns-clause-steps c =
+returns-clause-steps g c =
     let f = c.loop-vertex-test.false in
     let far = c.loop-vertex.auto.vertex-index in
     let e : c.loop-vertex.vertex-index ≡ length c.args.vertices.now = omega (arith, f, far) in

@@ -7,22 +7,22 @@ use Rattle.composer.proofs.RowLemmas.{in_from_member}
 use Rattle.composer.proofs.carry.insert_each.Goals as goal
 
 pub loop-value-init : goal.loop-value-init
-loop-value-init c = record { inserts = Inserts-none c.args.vertex c.args.sets.now.sets; cost = omega arith }
+loop-value-init g c = record { inserts = Inserts-none c.args.vertex c.args.sets.now.sets; cost = omega arith }
 
 pub insert-requires-clause-set : goal.insert-requires-clause-set
-insert-requires-clause-set c =
+insert-requires-clause-set g c =
     let e = Inserts-length _ _ _ _ c.loop-value.invariant.inserts in
     let lt = c.requires.vertex in
     omega (arith, e, lt)
 
 pub insert-requires-clause-value : goal.insert-requires-clause-value
-insert-requires-clause-value c =
+insert-requires-clause-value g c =
     let values = c.args.values.now in
     let i = c.loop-value.value-index in
     c.requires.values (get_or values i 0) (in_from_member (get_or values i 0) values (Contains-get_or values i 0 c.loop-value-test.true))
 
 pub loop-value-preserved : goal.loop-value-preserved
-loop-value-preserved c =
+loop-value-preserved g c =
     let values = c.args.values.now in
     let i = c.loop-value.value-index in
     record {
@@ -32,10 +32,10 @@ loop-value-preserved c =
     }
 
 pub returns-clause-inserts : goal.returns-clause-inserts
-returns-clause-inserts c = subst (λ xs. Inserts xs c.args.vertex c.args.sets.now.sets c.loop-value.sets.sets) (take_all c.loop-value.value-index c.args.values.now c.loop-value-test.false) c.loop-value.invariant.inserts
+returns-clause-inserts g c = subst (λ xs. Inserts xs c.args.vertex c.args.sets.now.sets c.loop-value.sets.sets) (take_all c.loop-value.value-index c.args.values.now c.loop-value-test.false) c.loop-value.invariant.inserts
 
 pub returns-clause-steps : goal.returns-clause-steps
-returns-clause-steps c =
+returns-clause-steps g c =
     let e = c.loop-value.invariant.cost in
     let f = c.loop-value-test.false in
     let far = c.loop-value.auto.value-index in

@@ -7,4 +7,4 @@ use Rattle.composer.proofs.noted.push_input.Given as goal
 abbrev pub invariant-loop-value : goal.invariant-loop-value
 invariant-loop-value l =
     l.ways.items ++ flat_map (λ t. callback_ways l.system.elem l.site (slice_get l.system.functions t)) (drop l.value-index l.value-items)
-    ≡ l.fn.ways.items ++ input_ways l.system (noted_of l.sets.sets l.carried l.noted.vertex l.noted.count) l.site l.input
+    ≡ l.fn.ways.items ++ input_ways l.system (noted_of l.fn.sets.sets l.fn.carried l.fn.noted.vertex l.fn.noted.count) l.site l.input

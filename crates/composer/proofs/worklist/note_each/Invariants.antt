@@ -3,7 +3,7 @@ use Rattle.composer.specs.Work.{Notes, first_of, left, spent}
 use Rattle.composer.proofs.worklist.note_each.Given as goal
 
 abbrev pub invariant-loop-value : goal.invariant-loop-value
-invariant-loop-value l = record {
+invariant-loop-value g l = record {
   vertex_is : l.noted.vertex ≡ l.fn.noted.vertex;
   count_is : l.noted.count ≡ l.fn.noted.count + l.value-index;
   same_length : length l.state.outs ≡ length l.fn.state.outs;
