@@ -125,8 +125,11 @@ module _ (a : System ℕ ℕ) (n i j : ℕ) (rows outs : List (List ℕ)) (pendi
   }
 
 pub nothing_spent : (n : ℕ) (outs : List (List ℕ)) → spent n (replicate n 0) outs ≡ 0
-nothing_spent n outs = zero_total 0 n (λ v. get_or (replicate n 0) v 0 * length (row outs v)) (λ v. ap (λ m. m * length (row outs v)) (none_at n v))
+nothing_spent n outs = zero_total 0 n (λ v. get_or (replicate n 0) v 0 * length (row outs v)) (λ v. ap (λ m. m * length (row outs v)) (none_at n v) ∙ none_times (length (row outs v)))
   where
     zero_total : (k m : ℕ) (g : ℕ → ℕ) → ((v : ℕ) → g v ≡ 0) → total k m g ≡ 0
     zero_total k zero g all = refl
     zero_total k (suc m) g all = let e = all k in let f = zero_total (suc k) m g all in omega (arith, e, f)
+
+    none_times : (k : ℕ) → 0 * k ≡ 0
+    none_times k = grind arith

@@ -4,6 +4,7 @@ use Rattle.std.specs.Prelude.{All, Contains, nat_eq}
 use Rattle.std.specs.List.{slice_range, sum_by}
 use Rattle.std.proofs.lemmas.Bool.{cases_eq, eq-eqb, ne_eqb}
 use Rattle.std.proofs.lemmas.List.{drop-drop, get_or-drop, get_or-take, length-take}
+use Rattle.std.proofs.lemmas.Grind.{get_or_default_zero}
 use Rattle.std.proofs.lemmas.List.Elements.{All-append, All-cons, All-head, All-map, All-nil, All-tail}
 use Rattle.composer.specs.declared.system.Arrow.{Arrow}
 use Rattle.composer.specs.declared.system.CallSite.{CallSite}
@@ -13,7 +14,7 @@ use Rattle.composer.specs.Rows.{is_in, row}
 use Rattle.composer.specs.Solution.{InSolution}
 use Rattle.composer.specs.Steps.{inputs}
 use Rattle.composer.specs.Ways.{all_ways}
-use Rattle.composer.specs.Work.{AreThere, Keeps, Rests, callee_places, input_places, places_of, spent, work_of}
+use Rattle.composer.specs.Work.{AreThere, Keeps, Rests, callee_places, first_of, input_places, places_of, spent, work_of}
 use Rattle.composer.proofs.KeepLemmas.{all_carried, among_first, among_last, same_at}
 use Rattle.composer.proofs.SpendLemmas.{spent_whole}
 use Rattle.composer.proofs.WayLemmas.{inputs_in, reason_in, solution_in, values_upto}
@@ -23,6 +24,14 @@ pub place_within : (xs : List ℕ) (i k : ℕ) → k < get_or xs i 0 → i < len
 place_within [] i k lt = absurd (omega (arith, lt))
 place_within (x ∷ xs) zero k lt = omega arith
 place_within (x ∷ xs) (suc i) k lt = let e = place_within xs i k lt in omega (arith, e)
+
+-- what is read by a default of its own is read by 0
+pub read_at : (xs : List ℕ) (i x : ℕ) → i < length xs → x ≡ get_or xs i x → x ≡ get_or xs i 0
+read_at xs i x lt is = is ∙ get_or_default_zero xs i x lt
+
+-- the values up to the number of those that were carried
+pub from_first : (rows : List (List ℕ)) (carried : List ℕ) (v k : ℕ) → k ≡ get_or carried v 0 → slice_range (row rows v) 0 k ≡ first_of rows carried v
+from_first rows carried v k is = let e : k - 0 ≡ get_or carried v 0 = omega (arith, is) in ap (λ j. take j (row rows v)) e
 
 -- so many values are there as are noted
 pub are_there : (rows : List (List ℕ)) (carried : List ℕ) (u i : ℕ) → ((v : ℕ) → get_or carried v 0 ≤ length (row rows v)) → i ≤ get_or carried u 0 → AreThere rows carried u i

@@ -31,7 +31,7 @@ total_le k (suc n) g h le =
 
 pub total_zero : (k n : ℕ) → total k n (λ i. 0) ≡ 0
 total_zero k zero = refl
-total_zero k (suc n) = total_zero (suc k) n
+total_zero k (suc n) = let e = total_zero (suc k) n in omega (arith, e)
 
 -- sums that differ at one number
 pub total_more : (k n x d : ℕ) (g h : ℕ → ℕ) → k ≤ x → x < k + n → ((i : ℕ) → i ≢ x → h i ≡ g i) → h x ≡ g x + d → total k n h ≡ total k n g + d
@@ -83,7 +83,7 @@ distinct_total n (x ∷ xs) g distinct below =
     other x xs g i ne = rw (ne_eqb x i (λ e. ne (sym e))) refl
 
     this : (x : ℕ) (xs : List ℕ) (g : ℕ → ℕ) → is_in x xs ≡ false → ◌≡◌ {A = ℕ} (cond (is_in x (x ∷ xs)) (g x) 0) (cond (is_in x xs) (g x) 0 + g x)
-    this x xs g absent = rw (eq-eqb x x refl, absent) refl
+    this x xs g absent = rw (eq-eqb x x refl, absent) (omega arith)
 
 -- a sum over a list, by its places
 total_of : {X : Type 0} (xs : List X) (k : ℕ) (g : X → ℕ) (h : ℕ → ℕ) → ((i : ℕ) (x : X) → i < length xs → get_or xs i x ≡ x → g x ≡ h (k + i)) → sum_by g xs ≡ total k (length xs) h
@@ -103,11 +103,12 @@ module _ (a : System ℕ ℕ) (values : HasValues a) (at : ℕ → List ℕ) (ha
   at_most : (v : ℕ) (g : ℕ → ℕ) → sum_by g (at v) ≤ over v g
   at_most v g =
       let n : a.native ≡ length a.functions = values.native in
+      let places : 0 + length a.functions ≡ a.native = omega (arith, n) in
       let all : sum_by g (at v) ≡ total 0 (suc (length a.functions)) (λ k. cond (is_in k (at v)) (g k) 0) = distinct_total (suc (length a.functions)) (at v) g (distinct v) (λ t h. let b = bound t v h in omega (arith, b, n)) in
       let le : total 0 (suc (length a.functions)) (λ k. cond (is_in k (at v)) (g k) 0) ≤ total 0 (suc (length a.functions)) (λ k. cond (has k v) (g k) 0)
       = total_le 0 (suc (length a.functions)) _ _ (λ i _ _. cond_le (is_in i (at v)) (has i v) (g i) (held i v)) in
       let last : total 0 (suc (length a.functions)) (λ k. cond (has k v) (g k) 0) ≡ total 0 (length a.functions) (λ k. cond (has k v) (g k) 0) + cond (has a.native v) (g a.native) 0
-      = total_last 0 (length a.functions) (λ k. cond (has k v) (g k) 0) ∙ ap (λ m. total 0 (length a.functions) (λ k. cond (has k v) (g k) 0) + cond (has m v) (g m) 0) (sym n) in
+      = total_last 0 (length a.functions) (λ k. cond (has k v) (g k) 0) ∙ ap (λ m. total 0 (length a.functions) (λ k. cond (has k v) (g k) 0) + cond (has m v) (g m) 0) places in
       let is : sum_by (λ (f : Callable ℕ ℕ). cond (has f.value v) (g f.value) 0) a.functions ≡ total 0 (length a.functions) (λ k. cond (has k v) (g k) 0)
       = total_of a.functions 0 (λ (f : Callable ℕ ℕ). cond (has f.value v) (g f.value) 0) (λ k. cond (has k v) (g k) 0) (λ i f lt e. let w : f.value ≡ i = subst (λ (x : Callable ℕ ℕ). x.value ≡ i) e (values.values i f lt) in let z : f.value ≡ 0 + i = omega (arith, w) in ap (λ m. cond (has m v) (g m) 0) z) in
       omega (arith, all, le, last, is)
@@ -228,7 +229,7 @@ module _ (a : System ℕ ℕ) (values : HasValues a) (at : ℕ → List ℕ) (ha
       = sum_by-append used (for_each_at a has s.callee (call_arrows s)) (cond (has a.native s.callee) (native_reasons a has s) []) in
       let at_native : sum_by work (called_ways a at s (slice_get a.functions a.native)) ≡ sum_by work (called_ways a at s None) = ap (λ o. sum_by work (called_ways a at s o)) (native_has_none a values) in
       let le = native_le s in
-      let last = by_test (has a.native s.callee) _ (native_reasons a has s) (omega (arith, at_native, le)) in
+      let last = by_test (has a.native s.callee) (sum_by work (called_ways a at s (slice_get a.functions a.native))) (native_reasons a has s) (omega (arith, at_native, le)) in
       omega (arith, flat, each, f, last)
     where
       by_test : (b : Bool) (x : ℕ) (ways : List (Arrow ℕ)) → x ≤ sum_by used ways → cond b x 0 ≤ sum_by used (cond b ways [])

@@ -139,7 +139,8 @@ fn advance<L: Ledger>(
         },
         values.as_slice(),
         steps,
-    )
+    )?;
+    Ok(())
 }
 
 // Notes the values of a vertex that stand behind those that are noted there.
@@ -213,7 +214,8 @@ fn note<L: Ledger>(
     )?;
     push_at_inputs(&mut ways, system, state.natives.as_slice(), takers, value)?;
     tell(&mut state.natives, noted.vertex, value == system.native);
-    add_ways(alloc, system, state, ways.as_slice(), steps)
+    add_ways(alloc, system, state, ways.as_slice(), steps)?;
+    Ok(())
 }
 
 // Notes whether a native stands at a vertex.
@@ -277,5 +279,6 @@ fn add_way<L: Ledger>(
         steps,
         values.as_slice(),
         way.to,
-    )
+    )?;
+    Ok(())
 }

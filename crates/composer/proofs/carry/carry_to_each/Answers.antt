@@ -38,6 +38,6 @@ returns-clause-offers g c =
 pub returns-clause-steps : goal.returns-clause-steps
 returns-clause-steps g c =
     let f = c.loop-vertex-test.false in
-    let far = c.loop-vertex.auto.vertex-index in
+    let far = c.loop-vertex.auto.vertex-index-end in
     let e : c.loop-vertex.vertex-index ≡ length c.args.vertices.now = omega (arith, f, far) in
     c.loop-vertex.invariant.cost ∙ ap (λ n. c.args.steps.now + length c.args.values.now * n) e

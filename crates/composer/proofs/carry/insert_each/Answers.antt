@@ -38,5 +38,5 @@ pub returns-clause-steps : goal.returns-clause-steps
 returns-clause-steps g c =
     let e = c.loop-value.invariant.cost in
     let f = c.loop-value-test.false in
-    let far = c.loop-value.auto.value-index in
+    let far = c.loop-value.auto.value-index-end in
     omega (arith, e, f, far)

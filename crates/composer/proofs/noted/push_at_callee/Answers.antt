@@ -1,6 +1,7 @@
 use Rattle.std.proofs.Common.{◌≤◌, ◌++◌, length, append-nil, sym, ap, ◌∙◌, subst}
 use Rattle.std.proofs.lemmas.Option.{slice_get_past}
-use Rattle.composer.specs.Work.{noted_of, ways_at_callee}
+use Rattle.composer.specs.Ways.{ways_at_callee}
+use Rattle.composer.specs.Work.{noted_of}
 use Rattle.composer.proofs.noted.push_at_callee.Goals as goal
 
 pub returns-in-None : goal.returns-in-None
