@@ -6,11 +6,11 @@ ghost use Rattle.js_parser.specs.Behind.{AfterPrimary, AfterTest, AloneOr, Assig
 ghost use Rattle.js_parser.specs.Nodes.{Knot, ReadsExpr, ValueAt};
 
 use crate::grammar::Grammar;
-use crate::kinds::are_same;
+use crate::kinds::is_assignment;
 use crate::marks::{mark, next_strength};
-use crate::patterns::pattern_of;
-use crate::tall::{Tall, Value, higher};
-use crate::values::value;
+use crate::tall::{Cover, Tall, Value, higher};
+use crate::values::{sound, value};
+use js_cover::pattern_of;
 use js_tokens::{Goal, TokenFault, TokenReader};
 use js_tree::{Arm, Expr, Stmt, TokenKind};
 use sqlite_items::{Boxed, Items};
@@ -18,29 +18,16 @@ use std::alloc::Global;
 
 impl<
     E: Fn(Global, &mut TokenReader<'_>, u32, u8) -> Result<Value, TokenFault>,
+    C: Fn(Global, &mut TokenReader<'_>, u32) -> Result<Cover, TokenFault>,
     S: Fn(Global, &mut TokenReader<'_>, u32) -> Result<Tall<Items<Stmt>>, TokenFault>,
-> Grammar<E, S> {
-    /// An assignment, a choice, or an expression of a higher level.
-    pub fn assignment(&self, reader: &mut TokenReader<'_>) -> Result<Value, TokenFault>
-        requires knot { Knot E.Fn S.Fn self.now }
-        requires some { 0 < self.now.room }
-        ensures reads { ReadsExpr 1 self.now.room reader.old reader.new result }
-    {
-        if are_same(TokenKind::LeftParen, reader.kind()) {
-            let first = self.parenthesized(reader)?;
-            return self.behind_primary(reader, first);
-        }
-        let first = self.binary(reader, 3)?;
-        self.behind_test(reader, first)
-    }
-
-    // What begins with the primary, up to an assignment.
-    fn behind_primary(
+> Grammar<E, C, S> {
+    /// What begins with the primary, up to an assignment.
+    pub fn behind_primary(
         &self,
         reader: &mut TokenReader<'_>,
         first: Value,
-    ) -> Result<Value, TokenFault>
-        requires knot { Knot E.Fn S.Fn self.now }
+    ) -> Result<Cover, TokenFault>
+        requires knot { Knot E.Fn C.Fn S.Fn self.now }
         requires some { 0 < self.now.room }
         requires first { ValueAt 18 self.now.room first }
         requires direct { CallsNoEval first reader.old }
@@ -53,51 +40,80 @@ impl<
         self.behind_test(reader, test)
     }
 
-    // A choice whose first test is given, or what is assigned to it; else the expression alone.
-    fn behind_test(&self, reader: &mut TokenReader<'_>, first: Value) -> Result<Value, TokenFault>
-        requires knot { Knot E.Fn S.Fn self.now }
+    /// A choice whose first test is given, or what is assigned to it; else the expression alone.
+    pub fn behind_test(
+        &self,
+        reader: &mut TokenReader<'_>,
+        first: Value,
+    ) -> Result<Cover, TokenFault>
+        requires knot { Knot E.Fn C.Fn S.Fn self.now }
         requires some { 0 < self.now.room }
         requires first { ValueAt 3 self.now.room first }
         ensures reads { GoesOn AfterTest 1 self.now.room first reader.old reader.new result }
     {
         if next_strength(reader) == 3 {
-            return self.choice(reader, first);
+            let whole = self.choice(reader, first)?;
+            return Ok(sound(whole));
         }
         self.assigned(reader, first)
     }
 
     // What is assigned to the expression, where it is a target and an operator follows; else the expression.
-    fn assigned(&self, reader: &mut TokenReader<'_>, first: Value) -> Result<Value, TokenFault>
-        requires knot { Knot E.Fn S.Fn self.now }
+    fn assigned(&self, reader: &mut TokenReader<'_>, first: Value) -> Result<Cover, TokenFault>
+        requires knot { Knot E.Fn C.Fn S.Fn self.now }
         requires some { 0 < self.now.room }
         requires first { ValueAt 3 self.now.room first }
-        ensures reads { GoesOn (AloneOr AssignsTo) 1 self.now.room first reader.old reader.new result }
-        ensures other { IfOk result (λ x. (expr x.node).rank ≡ COND → ⊥) }
+        ensures reads { CoverGoesOn (AloneOr AssignsTo) self.now.given self.now.room first reader.old reader.new result }
+        ensures other { IfOk result (λ x. (expr x.value.node).rank ≡ COND → ⊥) }
     {
         if !first.is_target {
-            return Ok(first);
+            return Ok(sound(first));
         }
-        if next_strength(reader) != 2 {
-            return Ok(first);
+        if !is_assignment(reader.kind()) {
+            return Ok(sound(first));
         }
-        if self.room <= first.height {
-            return Err(reader.refusal());
+        self.assigned_to(reader, first)
+    }
+
+    /// What is assigned to the pattern with the tokens of the expression, behind which an operator stands.
+    pub fn assigned_to(
+        &self,
+        reader: &mut TokenReader<'_>,
+        first: Value,
+    ) -> Result<Cover, TokenFault>
+        requires knot { Knot E.Fn C.Fn S.Fn self.now }
+        requires some { 0 < self.now.room }
+        ensures reads { CoverGoesOn AssignsTo self.now.given self.now.room first reader.old reader.new result }
+    {
+        let refusal = reader.refusal();
+        let tall = first.low;
+        if self.given < tall {
+            return Err(refusal);
         }
         let op = reader.take(self.alloc, Goal::Operator)?;
-        let target = pattern_of(self.alloc, first.node, first.height)?;
-        let given = self.inner(reader, 1)?;
-        let below = higher(target.height, given.height);
+        let Some(target) = pattern_of(self.alloc, first.node.into_inner())? else {
+            return Err(refusal);
+        };
+        let given = self.inner_given(reader)?;
+        let low = higher(tall, given.height);
         let node = Expr::Assign {
-            target: Boxed::new(self.alloc, target.node)?,
+            target: Boxed::new(self.alloc, target)?,
             op,
             value: given.node,
         };
-        value(self.alloc, reader, self.room, node, below, 1, false)
+        let value = Value {
+            node: Boxed::new(self.alloc, node)?,
+            height: low + 1,
+            rank: 1,
+            is_target: false,
+            low,
+        };
+        Ok(sound(value))
     }
 
     // A choice whose first test is given.
     fn choice(&self, reader: &mut TokenReader<'_>, first: Value) -> Result<Value, TokenFault>
-        requires knot { Knot E.Fn S.Fn self.now }
+        requires knot { Knot E.Fn C.Fn S.Fn self.now }
         requires some { 0 < self.now.room }
         requires first { ValueAt 3 self.now.room first }
         ensures reads { GoesOn Chooses 1 self.now.room first reader.old reader.new result }
@@ -118,12 +134,12 @@ impl<
             test = self.inner(reader, 3)?;
         }
         let last = self.assigned(reader, test)?;
-        let below = higher(height, last.height);
+        let below = higher(height, last.value.height);
         let node = Expr::Cond {
             arms,
-            last: last.node,
+            last: last.value.node,
         };
-        value(self.alloc, reader, self.room, node, below, 2, false)
+        value(self.alloc, reader, self.room, node, below, 2)
     }
 
     // The test that is given, and the value where it holds.
@@ -132,7 +148,7 @@ impl<
         reader: &mut TokenReader<'_>,
         test: Value,
     ) -> Result<Tall<Arm<Boxed<Expr>>>, TokenFault>
-        requires knot { Knot E.Fn S.Fn self.now }
+        requires knot { Knot E.Fn C.Fn S.Fn self.now }
         requires some { 0 < self.now.room }
         requires test { ValueAt 3 self.now.room test }
         ensures reads { ReadsArm self.now.room test reader.old reader.new result }

@@ -5,30 +5,19 @@ ghost use Rattle.js_parser.specs.Brackets.{BeginsElse, Closes, ItemKind, Opens, 
 
 use crate::kinds::are_same;
 use crate::marks::{mark, maybe_mark};
-use crate::tall::{Tall, higher};
+use crate::tall::{Facts, Item, higher};
 use js_tokens::{TokenFault, TokenReader};
-use js_tree::{Listed, Token, TokenKind};
+use js_tree::{Bracket, Listed, Token, TokenKind};
 use sqlite_items::Items;
 use std::alloc::{AllocError, Global};
 
-/// Items by commas, as they stand in brackets.
+// Items by commas, as they stand in brackets.
 #[derive(Drop)]
-pub struct Inside<I> {
-    /// The items with a comma behind them, from left to right.
-    pub front: Items<Listed<I>>,
-    /// The item without one, where the last has none.
-    pub last: Option<I>,
-}
-
-/// Items by commas and their brackets.
-#[derive(Drop)]
-pub struct Enclosed<I> {
-    /// The bracket that opens.
-    pub left: Token,
-    /// The items.
-    pub inside: Inside<I>,
-    /// The bracket that closes.
-    pub right: Token,
+struct Inside<I> {
+    // The items with a comma behind them, from left to right.
+    front: Items<Listed<I>>,
+    // The item without one, where the last has none.
+    last: Option<I>,
 }
 
 /// What reads the items of a list.
@@ -43,13 +32,33 @@ pub trait ReadItem {
     ghost may_read: { Self → Type 0 };
 
     /// An item.
-    fn item(&self, reader: &mut TokenReader<'_>) -> Result<Tall<Self::Item>, TokenFault>
+    fn item(&self, reader: &mut TokenReader<'_>) -> Result<Item<Self::Item>, TokenFault>
         requires { may_read self.now }
         ensures { ReadsItem kind (room self.now) reader.old reader.new result };
 
     /// Whether the item may stand last, with no comma behind it.
     fn may_end(&self, item: &Self::Item) -> bool
         ensures { result ≡ kind.ends item.now };
+}
+
+/// What is known of no item.
+pub const NO_ITEM: Facts = Facts {
+    height: 0,
+    low: 0,
+    is_sound: true,
+    is_target: false,
+};
+
+// What is known of items and one more.
+fn joint_facts(all: Facts, more: Facts) -> Facts
+    ensures { result ≡ joint_facts all more }
+{
+    Facts {
+        height: higher(all.height, more.height),
+        low: higher(all.low, more.low),
+        is_sound: all.is_sound && more.is_sound,
+        is_target: more.is_target,
+    }
 }
 
 /// Items by commas in brackets.
@@ -59,27 +68,26 @@ pub fn items_in_brackets<R: ReadItem>(
     by: &R,
     begin: TokenKind,
     close: TokenKind,
-) -> Result<Tall<Enclosed<R::Item>>, TokenFault>
+) -> Result<Item<Bracket<R::Item>>, TokenFault>
     requires may { R.may_read by.now }
     requires opens { Opens begin }
     requires closes { Closes close }
     requires other { BeginsElse R.kind close }
     ensures reads { ReadsEnclosed R.kind begin close (R.room by.now) reader.old reader.new result }
 {
-    let left = mark(alloc, reader, begin)?;
-    let Tall {
+    let open = mark(alloc, reader, begin)?;
+    let Item {
         node: inside,
-        height,
+        facts,
     } = items(alloc, reader, by, close)?;
-    let right = mark(alloc, reader, close)?;
-    Ok(Tall {
-        node: Enclosed {
-            left,
-            inside,
-            right,
-        },
-        height,
-    })
+    let close = mark(alloc, reader, close)?;
+    let node = Bracket {
+        open,
+        front: inside.front,
+        last: inside.last,
+        close,
+    };
+    Ok(Item { node, facts })
 }
 
 // Items by commas, up to the bracket that closes.
@@ -88,7 +96,7 @@ fn items<R: ReadItem>(
     reader: &mut TokenReader<'_>,
     by: &R,
     close: TokenKind,
-) -> Result<Tall<Inside<R::Item>>, TokenFault>
+) -> Result<Item<Inside<R::Item>>, TokenFault>
     requires may { R.may_read by.now }
     requires closes { Closes close }
     requires other { BeginsElse R.kind close }
@@ -96,24 +104,22 @@ fn items<R: ReadItem>(
 {
     let mut front = Items::new(alloc);
     let mut last = None;
-    let mut height = 0;
+    let mut facts = NO_ITEM;
     'items: while goes_on(&last, close, reader.kind()) {
-        let Tall {
+        let Item {
             node: item,
-            height: tall,
+            facts: more,
         } = by.item(reader)?;
         let comma = maybe_mark(alloc, reader, TokenKind::Comma)?;
         let ends = by.may_end(&item);
         if lacks_comma(&comma, ends) {
             return Err(reader.refusal());
         }
-        height = higher(height, tall);
+        facts = joint_facts(facts, more);
         put(&mut front, &mut last, item, comma)?;
     }
-    Ok(Tall {
-        node: Inside { front, last },
-        height,
-    })
+    let node = Inside { front, last };
+    Ok(Item { node, facts })
 }
 
 // Whether a further item stands before the token, where this is the item without a comma so far.

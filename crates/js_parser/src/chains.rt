@@ -13,15 +13,15 @@ use crate::grammar::Grammar;
 use crate::kinds::are_same;
 use crate::marks::mark;
 use crate::tails::is_eval;
-use crate::tall::{Tall, Value, higher};
-use crate::values::value;
+use crate::tall::{Cover, Tall, Value, higher};
+use crate::values::{low_where, place, value};
 use js_tokens::{TokenFault, TokenReader};
 use js_tree::{Bracket, Expr, Stmt, Token, TokenKind, is_target};
 use sqlite_items::{Boxed, Items};
 use std::alloc::Global;
 
-// Whether arguments follow the name `eval`.
-fn calls_eval(head: &Expr, next: TokenKind) -> bool
+/// Whether arguments follow the name `eval`.
+pub fn calls_eval(head: &Expr, next: TokenKind) -> bool
     ensures { result ≡ (is_named (codes "eval") (seen head.now) && is kinds.LeftParen next) }
 {
     is_eval(head) && are_same(TokenKind::LeftParen, next)
@@ -43,11 +43,12 @@ fn made_rank(has_args: bool) -> u8
 
 impl<
     E: Fn(Global, &mut TokenReader<'_>, u32, u8) -> Result<Value, TokenFault>,
+    C: Fn(Global, &mut TokenReader<'_>, u32) -> Result<Cover, TokenFault>,
     S: Fn(Global, &mut TokenReader<'_>, u32) -> Result<Tall<Items<Stmt>>, TokenFault>,
-> Grammar<E, S> {
+> Grammar<E, C, S> {
     /// A chain, what `new` makes, or a primary.
     pub fn chain(&self, reader: &mut TokenReader<'_>) -> Result<Value, TokenFault>
-        requires knot { Knot E.Fn S.Fn self.now }
+        requires knot { Knot E.Fn C.Fn S.Fn self.now }
         requires some { 0 < self.now.room }
         ensures reads { ReadsExpr 17 self.now.room reader.old reader.new result }
     {
@@ -65,7 +66,7 @@ impl<
         reader: &mut TokenReader<'_>,
         head: Value,
     ) -> Result<Value, TokenFault>
-        requires knot { Knot E.Fn S.Fn self.now }
+        requires knot { Knot E.Fn C.Fn S.Fn self.now }
         requires some { 0 < self.now.room }
         requires first { ValueAt 18 self.now.room head }
         requires direct { CallsNoEval head reader.old }
@@ -84,12 +85,22 @@ impl<
             tails: tails.node,
         };
         let is_target = is_target(&node);
-        value(self.alloc, reader, self.room, node, below, 17, is_target)
+        let low = low_where(is_target, below + 2);
+        place(
+            self.alloc,
+            reader,
+            self.room,
+            node,
+            below,
+            17,
+            is_target,
+            low,
+        )
     }
 
     /// What `new` makes, or a primary.
     pub fn head(&self, reader: &mut TokenReader<'_>) -> Result<Value, TokenFault>
-        requires knot { Knot E.Fn S.Fn self.now }
+        requires knot { Knot E.Fn C.Fn S.Fn self.now }
         requires some { 0 < self.now.room }
         ensures reads { ReadsExpr 18 self.now.room reader.old reader.new result }
     {
@@ -101,7 +112,7 @@ impl<
 
     // What `new` makes, or `new.target`.
     fn made(&self, reader: &mut TokenReader<'_>) -> Result<Value, TokenFault>
-        requires knot { Knot E.Fn S.Fn self.now }
+        requires knot { Knot E.Fn C.Fn S.Fn self.now }
         requires some { 0 < self.now.room }
         requires told { IsNextKind reader.old kinds.New }
         ensures reads { ReadsExpr 18 self.now.room reader.old reader.new result }
@@ -115,7 +126,7 @@ impl<
                 return Err(refusal);
             }
             let node = Expr::NewTarget { word, dot, target };
-            return value(self.alloc, reader, self.room, node, 0, 20, false);
+            return value(self.alloc, reader, self.room, node, 0, 20);
         }
         let head = self.inner(reader, 18)?;
         if head.rank < 19 {
@@ -127,7 +138,7 @@ impl<
                 tails: Items::new(self.alloc),
                 args: None,
             };
-            return value(self.alloc, reader, self.room, node, below, 18, false);
+            return value(self.alloc, reader, self.room, node, below, 18);
         }
         let tails = self.tails(reader, false)?;
         let args = self.maybe_arguments(reader)?;
@@ -139,15 +150,15 @@ impl<
             tails: tails.node,
             args: args.node,
         };
-        value(self.alloc, reader, self.room, node, below, rank, false)
+        value(self.alloc, reader, self.room, node, below, rank)
     }
 
     // Arguments, where they follow.
     fn maybe_arguments(
         &self,
         reader: &mut TokenReader<'_>,
-    ) -> Result<Tall<Option<Boxed<Bracket<Boxed<Expr>>>>>, TokenFault>
-        requires knot { Knot E.Fn S.Fn self.now }
+    ) -> Result<Tall<Option<Boxed<Bracket<Element<Boxed<Expr>>>>>>, TokenFault>
+        requires knot { Knot E.Fn C.Fn S.Fn self.now }
         requires some { 0 < self.now.room }
         ensures reads { ReadsMaybeArguments (self.now.room - 1) reader.old reader.new result }
     {

@@ -6,7 +6,7 @@ ghost use Rattle.js_parser.specs.Nodes.{Knot, IsListRank, is_level, list_layer, 
 
 use crate::grammar::Grammar;
 use crate::marks::next_strength;
-use crate::tall::{Tall, Value, higher};
+use crate::tall::{Cover, Tall, Value, higher};
 use crate::values::value;
 use js_tokens::{Goal, TokenFault, TokenReader};
 use js_tree::{Expr, Further, Stmt};
@@ -15,11 +15,12 @@ use std::alloc::Global;
 
 impl<
     E: Fn(Global, &mut TokenReader<'_>, u32, u8) -> Result<Value, TokenFault>,
+    C: Fn(Global, &mut TokenReader<'_>, u32) -> Result<Cover, TokenFault>,
     S: Fn(Global, &mut TokenReader<'_>, u32) -> Result<Tall<Items<Stmt>>, TokenFault>,
-> Grammar<E, S> {
+> Grammar<E, C, S> {
     /// An expression of the level.
     pub fn expression(&self, reader: &mut TokenReader<'_>, level: u8) -> Result<Value, TokenFault>
-        requires knot { Knot E.Fn S.Fn self.now }
+        requires knot { Knot E.Fn C.Fn S.Fn self.now }
         requires level { is_level level ≡ true }
         ensures reads { ReadsExpr level self.now.room reader.old reader.new result }
     {
@@ -37,7 +38,7 @@ impl<
 
     // A list by commas, or an expression of another level.
     fn comma(&self, reader: &mut TokenReader<'_>) -> Result<Value, TokenFault>
-        requires knot { Knot E.Fn S.Fn self.now }
+        requires knot { Knot E.Fn C.Fn S.Fn self.now }
         requires some { 0 < self.now.room }
         ensures reads { ReadsExpr 0 self.now.room reader.old reader.new result }
     {
@@ -47,7 +48,7 @@ impl<
 
     /// Operands with operators of this rank, from 3 to 12, and higher ones.
     pub fn binary(&self, reader: &mut TokenReader<'_>, lowest: u8) -> Result<Value, TokenFault>
-        requires knot { Knot E.Fn S.Fn self.now }
+        requires knot { Knot E.Fn C.Fn S.Fn self.now }
         requires some { 0 < self.now.room }
         requires least { 3 ≤ lowest }
         requires most { lowest ≤ 13 }
@@ -64,7 +65,7 @@ impl<
         first: Value,
         lowest: u8,
     ) -> Result<Value, TokenFault>
-        requires knot { Knot E.Fn S.Fn self.now }
+        requires knot { Knot E.Fn C.Fn S.Fn self.now }
         requires some { 0 < self.now.room }
         requires least { 3 ≤ lowest }
         requires most { lowest ≤ 13 }
@@ -87,7 +88,7 @@ impl<
         first: Value,
         rank: u8,
     ) -> Result<Value, TokenFault>
-        requires knot { Knot E.Fn S.Fn self.now }
+        requires knot { Knot E.Fn C.Fn S.Fn self.now }
         requires some { 0 < self.now.room }
         requires rank { IsListRank rank }
         requires first { ValueAt (rank + 1) self.now.room first }
@@ -99,7 +100,7 @@ impl<
         let others = self.operands(reader, rank)?;
         let below = higher(first.height, others.height);
         let node = listed(rank, first.node, others.node);
-        value(self.alloc, reader, self.room, node, below, rank, false)
+        value(self.alloc, reader, self.room, node, below, rank)
     }
 
     /// The operands behind the first one of an expression of the rank, one at least, each with what stands before it.
@@ -108,7 +109,7 @@ impl<
         reader: &mut TokenReader<'_>,
         rank: u8,
     ) -> Result<Tall<Items<Further<Boxed<Expr>>>>, TokenFault>
-        requires knot { Knot E.Fn S.Fn self.now }
+        requires knot { Knot E.Fn C.Fn S.Fn self.now }
         requires some { 0 < self.now.room }
         requires rank { IsListRank rank }
         ensures reads { ReadsOperands rank (self.now.room - 1) reader.old reader.new result }
@@ -140,7 +141,7 @@ impl<
         reader: &mut TokenReader<'_>,
         rank: u8,
     ) -> Result<Tall<Further<Boxed<Expr>>>, TokenFault>
-        requires knot { Knot E.Fn S.Fn self.now }
+        requires knot { Knot E.Fn C.Fn S.Fn self.now }
         requires some { 0 < self.now.room }
         requires rank { IsListRank rank }
         ensures reads { ReadsOperand rank (self.now.room - 1) reader.old reader.new result }

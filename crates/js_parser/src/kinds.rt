@@ -21,6 +21,8 @@ pub fn strength(kind: TokenKind, nl_before: bool) -> u8
         1
     } else if is_assignment(kind) {
         2
+    } else if are_same(TokenKind::Arrow, kind) {
+        if nl_before { 0 } else { 2 }
     } else if are_same(TokenKind::Question, kind) {
         3
     } else if 0 < level_of(kind) {
@@ -144,6 +146,10 @@ pub enum Primary {
     Template,
     /// An expression in round brackets.
     Paren,
+    /// An array.
+    Array,
+    /// An object.
+    Object,
     /// A function.
     Function,
     /// No primary.
@@ -167,9 +173,93 @@ pub fn primary_of(kind: TokenKind) -> Primary
         TokenKind::TemplateWhole => Primary::Template,
         TokenKind::TemplateHead => Primary::Template,
         TokenKind::LeftParen => Primary::Paren,
+        TokenKind::LeftBracket => Primary::Array,
+        TokenKind::LeftBrace => Primary::Object,
         TokenKind::Function => Primary::Function,
         _ => Primary::Nothing,
     }
+}
+
+/// With what an expression begins that may turn out to be a pattern, or to have one in it.
+#[derive(Clone, Copy, Debug, PartialEq, Eq)]
+pub enum Opening {
+    /// Items in round brackets.
+    Round,
+    /// An array.
+    Square,
+    /// An object.
+    Brace,
+    /// A name.
+    Name,
+    /// Anything else.
+    Other,
+}
+
+/// With what an expression begins that begins with the token.
+pub fn opening_of(kind: TokenKind) -> Opening
+    ensures { result ≡ following.opening_of kind }
+{
+    match kind {
+        TokenKind::LeftParen => Opening::Round,
+        TokenKind::LeftBracket => Opening::Square,
+        TokenKind::LeftBrace => Opening::Brace,
+        TokenKind::Name => Opening::Name,
+        _ => Opening::Other,
+    }
+}
+
+/// What a property of an object is by its first token.
+#[derive(Clone, Copy, Debug, PartialEq, Eq)]
+pub enum PropertyStart {
+    /// All properties of another object.
+    Spread,
+    /// A key that is the value of an expression.
+    Computed,
+    /// A name: a key, or key and value.
+    Name,
+    /// Another key.
+    Key,
+    /// No property.
+    Nothing,
+}
+
+/// What a property that begins with the token is.
+pub fn property_of(kind: TokenKind) -> PropertyStart
+    ensures { result ≡ following.property_of kind }
+{
+    match kind {
+        TokenKind::Dots => PropertyStart::Spread,
+        TokenKind::LeftBracket => PropertyStart::Computed,
+        TokenKind::Name => PropertyStart::Name,
+        TokenKind::Str => PropertyStart::Key,
+        TokenKind::Number => PropertyStart::Key,
+        _ => word_key(kind),
+    }
+}
+
+// A word is a key.
+fn word_key(kind: TokenKind) -> PropertyStart
+    ensures { result ≡ following.word_key kind }
+{
+    if is_word(kind) {
+        PropertyStart::Key
+    } else {
+        PropertyStart::Nothing
+    }
+}
+
+/// Whether the kind is one of the table of words, which come last.
+pub fn is_word(kind: TokenKind) -> bool
+    ensures { result ≡ operators.is_word kind }
+{
+    TokenKind::Break as u8 <= kind as u8
+}
+
+/// Whether the token is the `=>` of an arrow, which stands on the line of the parameters.
+pub fn begins_arrow(kind: TokenKind, nl_before: bool) -> bool
+    ensures { result ≡ following.begins_arrow kind nl_before }
+{
+    are_same(TokenKind::Arrow, kind) && !nl_before
 }
 
 /// What a statement is by its first token.

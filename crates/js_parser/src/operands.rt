@@ -9,7 +9,7 @@ ghost use Rattle.js_parser.specs.Nodes.{Knot, ReadsExpr, ValueAt};
 use crate::grammar::Grammar;
 use crate::kinds::{is_unary, is_update};
 use crate::marks::next_strength;
-use crate::tall::{Tall, Value, higher};
+use crate::tall::{Cover, Tall, Value, higher};
 use crate::values::value;
 use js_tokens::{Goal, TokenFault, TokenReader};
 use js_tree::{Expr, Stmt};
@@ -18,11 +18,12 @@ use std::alloc::Global;
 
 impl<
     E: Fn(Global, &mut TokenReader<'_>, u32, u8) -> Result<Value, TokenFault>,
+    C: Fn(Global, &mut TokenReader<'_>, u32) -> Result<Cover, TokenFault>,
     S: Fn(Global, &mut TokenReader<'_>, u32) -> Result<Tall<Items<Stmt>>, TokenFault>,
-> Grammar<E, S> {
+> Grammar<E, C, S> {
     /// A power, or what may stand in one.
     pub fn power(&self, reader: &mut TokenReader<'_>) -> Result<Value, TokenFault>
-        requires knot { Knot E.Fn S.Fn self.now }
+        requires knot { Knot E.Fn C.Fn S.Fn self.now }
         requires some { 0 < self.now.room }
         ensures reads { ReadsExpr 13 self.now.room reader.old reader.new result }
     {
@@ -36,7 +37,7 @@ impl<
         reader: &mut TokenReader<'_>,
         base: Value,
     ) -> Result<Value, TokenFault>
-        requires knot { Knot E.Fn S.Fn self.now }
+        requires knot { Knot E.Fn C.Fn S.Fn self.now }
         requires some { 0 < self.now.room }
         requires first { ValueAt 14 self.now.room base }
         ensures reads { GoesOn (AloneOr Raises) 13 self.now.room base reader.old reader.new result }
@@ -55,12 +56,12 @@ impl<
             op,
             exponent: exponent.node,
         };
-        value(self.alloc, reader, self.room, node, below, 13, false)
+        value(self.alloc, reader, self.room, node, below, 13)
     }
 
     /// An operator and its operand, or an expression without one before it.
     pub fn unary(&self, reader: &mut TokenReader<'_>) -> Result<Value, TokenFault>
-        requires knot { Knot E.Fn S.Fn self.now }
+        requires knot { Knot E.Fn C.Fn S.Fn self.now }
         requires some { 0 < self.now.room }
         ensures reads { ReadsExpr 14 self.now.room reader.old reader.new result }
     {
@@ -74,7 +75,7 @@ impl<
     // An operator and its operand.
     fn operation(&self, reader: &mut TokenReader<'_>) -> Result<Value, TokenFault>
         requires told { Leads operators.is_unary reader.old }
-        requires knot { Knot E.Fn S.Fn self.now }
+        requires knot { Knot E.Fn C.Fn S.Fn self.now }
         requires some { 0 < self.now.room }
         ensures reads { ReadsExpr 14 self.now.room reader.old reader.new result }
     {
@@ -97,13 +98,12 @@ impl<
             node,
             operand.height,
             rank,
-            false,
         )
     }
 
     /// A target and `++` or `--` on its line, or the expression alone.
     pub fn postfix(&self, reader: &mut TokenReader<'_>) -> Result<Value, TokenFault>
-        requires knot { Knot E.Fn S.Fn self.now }
+        requires knot { Knot E.Fn C.Fn S.Fn self.now }
         requires some { 0 < self.now.room }
         ensures reads { ReadsExpr 16 self.now.room reader.old reader.new result }
     {
@@ -132,7 +132,7 @@ impl<
             target: first.node,
             op,
         };
-        value(self.alloc, reader, self.room, node, below, 16, false)
+        value(self.alloc, reader, self.room, node, below, 16)
     }
 }
 

@@ -9,8 +9,8 @@ ghost use Rattle.js_parser.specs.Nodes.{Knot, ReadsExpr};
 use crate::grammar::Grammar;
 use crate::kinds::{Primary, primary_of};
 use crate::marks::mark;
-use crate::tall::{Tall, Value};
-use crate::values::value;
+use crate::tall::{Cover, Tall, Value};
+use crate::values::{low_where, place, value};
 use js_tokens::{Goal, TokenFault, TokenReader};
 use js_tree::{Expr, Stmt, TokenKind};
 use sqlite_items::{Boxed, Items};
@@ -18,11 +18,12 @@ use std::alloc::Global;
 
 impl<
     E: Fn(Global, &mut TokenReader<'_>, u32, u8) -> Result<Value, TokenFault>,
+    C: Fn(Global, &mut TokenReader<'_>, u32) -> Result<Cover, TokenFault>,
     S: Fn(Global, &mut TokenReader<'_>, u32) -> Result<Tall<Items<Stmt>>, TokenFault>,
-> Grammar<E, S> {
+> Grammar<E, C, S> {
     /// A primary.
     pub fn primary(&self, reader: &mut TokenReader<'_>) -> Result<Value, TokenFault>
-        requires knot { Knot E.Fn S.Fn self.now }
+        requires knot { Knot E.Fn C.Fn S.Fn self.now }
         requires some { 0 < self.now.room }
         requires told { Leads (λ k. not (is kinds.New k)) reader.old }
         ensures reads { ReadsExpr 18 self.now.room reader.old reader.new result }
@@ -33,23 +34,34 @@ impl<
             Primary::Literal => self.literal(reader),
             Primary::Template => self.template_value(reader),
             Primary::Paren => self.parenthesized(reader),
+            Primary::Array => self.array_value(reader),
+            Primary::Object => self.object_value(reader),
             Primary::Function => self.function_value(reader),
             Primary::Nothing => Err(reader.refusal()),
         }
     }
 
     fn name(&self, reader: &mut TokenReader<'_>) -> Result<Value, TokenFault>
-        requires knot { Knot E.Fn S.Fn self.now }
+        requires knot { Knot E.Fn C.Fn S.Fn self.now }
         requires some { 0 < self.now.room }
         requires told { LeadsTo sorts.Name reader.old }
         ensures reads { ReadsExpr 18 self.now.room reader.old reader.new result }
     {
         let name = mark(self.alloc, reader, TokenKind::Name)?;
-        value(self.alloc, reader, self.room, Expr::Name(name), 0, 20, true)
+        place(
+            self.alloc,
+            reader,
+            self.room,
+            Expr::Name(name),
+            0,
+            20,
+            true,
+            1,
+        )
     }
 
     fn this(&self, reader: &mut TokenReader<'_>) -> Result<Value, TokenFault>
-        requires knot { Knot E.Fn S.Fn self.now }
+        requires knot { Knot E.Fn C.Fn S.Fn self.now }
         requires some { 0 < self.now.room }
         requires told { LeadsTo sorts.This reader.old }
         ensures reads { ReadsExpr 18 self.now.room reader.old reader.new result }
@@ -62,13 +74,12 @@ impl<
             Expr::This(word),
             0,
             20,
-            false,
         )
     }
 
     // A literal; a `/` begins a regular expression here.
     fn literal(&self, reader: &mut TokenReader<'_>) -> Result<Value, TokenFault>
-        requires knot { Knot E.Fn S.Fn self.now }
+        requires knot { Knot E.Fn C.Fn S.Fn self.now }
         requires some { 0 < self.now.room }
         requires told { LeadsTo sorts.Literal reader.old }
         ensures reads { ReadsExpr 18 self.now.room reader.old reader.new result }
@@ -81,13 +92,12 @@ impl<
             Expr::Literal(token),
             0,
             20,
-            false,
         )
     }
 
     /// An expression in round brackets.
     pub fn parenthesized(&self, reader: &mut TokenReader<'_>) -> Result<Value, TokenFault>
-        requires knot { Knot E.Fn S.Fn self.now }
+        requires knot { Knot E.Fn C.Fn S.Fn self.now }
         requires some { 0 < self.now.room }
         requires told { LeadsTo sorts.Paren reader.old }
         ensures reads { ReadsExpr 18 self.now.room reader.old reader.new result }
@@ -97,16 +107,26 @@ impl<
         let close = mark(self.alloc, reader, TokenKind::RightParen)?;
         let below = inner.height;
         let is_target = inner.is_target;
+        let low = low_where(is_target, inner.low + 1);
         let node = Expr::Paren {
             open,
             inner: inner.node,
             close,
         };
-        value(self.alloc, reader, self.room, node, below, 20, is_target)
+        place(
+            self.alloc,
+            reader,
+            self.room,
+            node,
+            below,
+            20,
+            is_target,
+            low,
+        )
     }
 
     fn template_value(&self, reader: &mut TokenReader<'_>) -> Result<Value, TokenFault>
-        requires knot { Knot E.Fn S.Fn self.now }
+        requires knot { Knot E.Fn C.Fn S.Fn self.now }
         requires some { 0 < self.now.room }
         requires told { LeadsTo sorts.Template reader.old }
         ensures reads { ReadsExpr 18 self.now.room reader.old reader.new result }
@@ -119,13 +139,34 @@ impl<
             Expr::Template(node),
             height,
             20,
-            false,
         )
+    }
+
+    // An array where no pattern can stand.
+    fn array_value(&self, reader: &mut TokenReader<'_>) -> Result<Value, TokenFault>
+        requires knot { Knot E.Fn C.Fn S.Fn self.now }
+        requires some { 0 < self.now.room }
+        requires told { LeadsTo sorts.Array reader.old }
+        ensures reads { ReadsExpr 18 self.now.room reader.old reader.new result }
+    {
+        let cover = self.array(reader)?;
+        self.expression_of(reader, cover)
+    }
+
+    // An object where no pattern can stand.
+    fn object_value(&self, reader: &mut TokenReader<'_>) -> Result<Value, TokenFault>
+        requires knot { Knot E.Fn C.Fn S.Fn self.now }
+        requires some { 0 < self.now.room }
+        requires told { LeadsTo sorts.Object reader.old }
+        ensures reads { ReadsExpr 18 self.now.room reader.old reader.new result }
+    {
+        let cover = self.object(reader)?;
+        self.expression_of(reader, cover)
     }
 
     // A function as a value.
     fn function_value(&self, reader: &mut TokenReader<'_>) -> Result<Value, TokenFault>
-        requires knot { Knot E.Fn S.Fn self.now }
+        requires knot { Knot E.Fn C.Fn S.Fn self.now }
         requires some { 0 < self.now.room }
         requires told { LeadsTo sorts.Function reader.old }
         ensures reads { ReadsExpr 18 self.now.room reader.old reader.new result }
@@ -139,7 +180,6 @@ impl<
             Expr::Fun { function },
             height,
             20,
-            false,
         )
     }
 }

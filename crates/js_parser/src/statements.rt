@@ -8,19 +8,20 @@ ghost use Rattle.js_parser.specs.Nodes.{Knot, ReadsStmt, ReadsStmts, ReadsSlot, 
 use crate::grammar::Grammar;
 use crate::kinds::{Statement, are_same, closes, statement_of};
 use crate::marks::mark;
-use crate::tall::{Tall, Value, higher};
+use crate::tall::{Cover, Tall, Value, higher};
 use js_tokens::{TokenFault, TokenReader};
-use js_tree::{Expr, Function, Further, Init, Pattern, Slot, Stmt, TokenKind};
+use js_tree::{Expr, Function, Further, Slot, Stmt, TokenKind};
 use sqlite_items::{Boxed, Items};
 use std::alloc::Global;
 
 impl<
     E: Fn(Global, &mut TokenReader<'_>, u32, u8) -> Result<Value, TokenFault>,
+    C: Fn(Global, &mut TokenReader<'_>, u32) -> Result<Cover, TokenFault>,
     S: Fn(Global, &mut TokenReader<'_>, u32) -> Result<Tall<Items<Stmt>>, TokenFault>,
-> Grammar<E, S> {
+> Grammar<E, C, S> {
     /// Statements, up to a `}` or the end.
     pub fn statements(&self, reader: &mut TokenReader<'_>) -> Result<Tall<Items<Stmt>>, TokenFault>
-        requires knot { Knot E.Fn S.Fn self.now }
+        requires knot { Knot E.Fn C.Fn S.Fn self.now }
         ensures reads { ReadsStmts self.now.room reader.old reader.new result }
     {
         let mut all = Items::new(self.alloc);
@@ -41,7 +42,7 @@ impl<
 
     // A statement.
     fn statement(&self, reader: &mut TokenReader<'_>) -> Result<Tall<Stmt>, TokenFault>
-        requires knot { Knot E.Fn S.Fn self.now }
+        requires knot { Knot E.Fn C.Fn S.Fn self.now }
         requires some { 0 < self.now.room }
         ensures reads { ReadsStmt self.now.room reader.old reader.new result }
     {
@@ -56,7 +57,7 @@ impl<
 
     // The declaration of a function.
     fn declaration(&self, reader: &mut TokenReader<'_>) -> Result<Tall<Stmt>, TokenFault>
-        requires knot { Knot E.Fn S.Fn self.now }
+        requires knot { Knot E.Fn C.Fn S.Fn self.now }
         requires some { 0 < self.now.room }
         requires told { LeadsToStmt sorts.Function reader.old }
         ensures reads { ReadsStmt self.now.room reader.old reader.new result }
@@ -75,7 +76,7 @@ impl<
 
     // The declaration of variables.
     fn variables(&self, reader: &mut TokenReader<'_>) -> Result<Tall<Stmt>, TokenFault>
-        requires knot { Knot E.Fn S.Fn self.now }
+        requires knot { Knot E.Fn C.Fn S.Fn self.now }
         requires some { 0 < self.now.room }
         requires told { LeadsToStmt sorts.Var reader.old }
         ensures reads { ReadsStmt self.now.room reader.old reader.new result }
@@ -100,7 +101,7 @@ impl<
         &self,
         reader: &mut TokenReader<'_>,
     ) -> Result<Tall<Items<Further<Slot>>>, TokenFault>
-        requires knot { Knot E.Fn S.Fn self.now }
+        requires knot { Knot E.Fn C.Fn S.Fn self.now }
         requires some { 0 < self.now.room }
         ensures reads { ReadsSlots (self.now.room - 1) reader.old reader.new result }
     {
@@ -116,7 +117,7 @@ impl<
 
     // A further declaration with its comma.
     fn further_slot(&self, reader: &mut TokenReader<'_>) -> Result<Tall<Further<Slot>>, TokenFault>
-        requires knot { Knot E.Fn S.Fn self.now }
+        requires knot { Knot E.Fn C.Fn S.Fn self.now }
         requires some { 0 < self.now.room }
         ensures reads { ReadsFurtherSlot (self.now.room - 1) reader.old reader.new result }
     {
@@ -131,55 +132,9 @@ impl<
         })
     }
 
-    // A name that is declared, and what it is given.
-    fn slot(&self, reader: &mut TokenReader<'_>) -> Result<Tall<Slot>, TokenFault>
-        requires knot { Knot E.Fn S.Fn self.now }
-        requires some { 0 < self.now.room }
-        ensures reads { ReadsSlot (self.now.room - 1) reader.old reader.new result }
-    {
-        if self.room == 1 {
-            return Err(reader.refusal());
-        }
-        let name = mark(self.alloc, reader, TokenKind::Name)?;
-        let init = self.init(reader)?;
-        Ok(Tall {
-            height: higher(1, init.height),
-            node: Slot {
-                target: Pattern::Name(name),
-                init: init.node,
-            },
-        })
-    }
-
-    // What a name is given, where it is given anything.
-    fn init(
-        &self,
-        reader: &mut TokenReader<'_>,
-    ) -> Result<Tall<Option<Init<Boxed<Expr>>>>, TokenFault>
-        requires knot { Knot E.Fn S.Fn self.now }
-        requires some { 0 < self.now.room }
-        ensures reads { ReadsInit (self.now.room - 1) reader.old reader.new result }
-    {
-        if !are_same(TokenKind::Assign, reader.kind()) {
-            return Ok(Tall {
-                node: None,
-                height: 0,
-            });
-        }
-        let equals = mark(self.alloc, reader, TokenKind::Assign)?;
-        let value = self.inner(reader, 1)?;
-        Ok(Tall {
-            height: value.height,
-            node: Some(Init {
-                equals,
-                value: value.node,
-            }),
-        })
-    }
-
     // The end of a function, with what it gives where that stands on its line.
     fn end_of_function(&self, reader: &mut TokenReader<'_>) -> Result<Tall<Stmt>, TokenFault>
-        requires knot { Knot E.Fn S.Fn self.now }
+        requires knot { Knot E.Fn C.Fn S.Fn self.now }
         requires some { 0 < self.now.room }
         requires told { LeadsToStmt sorts.Return reader.old }
         ensures reads { ReadsStmt self.now.room reader.old reader.new result }
@@ -199,7 +154,7 @@ impl<
 
     // What a function gives, on the line of its word, where it gives anything.
     fn given(&self, reader: &mut TokenReader<'_>) -> Result<Tall<Option<Boxed<Expr>>>, TokenFault>
-        requires knot { Knot E.Fn S.Fn self.now }
+        requires knot { Knot E.Fn C.Fn S.Fn self.now }
         requires some { 0 < self.now.room }
         ensures reads { ReadsGiven (self.now.room - 1) reader.old reader.new result }
     {
@@ -221,7 +176,7 @@ impl<
 
     // An expression as a statement.
     fn plain(&self, reader: &mut TokenReader<'_>) -> Result<Tall<Stmt>, TokenFault>
-        requires knot { Knot E.Fn S.Fn self.now }
+        requires knot { Knot E.Fn C.Fn S.Fn self.now }
         requires some { 0 < self.now.room }
         requires told { LeadsToStmt sorts.Plain reader.old }
         ensures reads { ReadsStmt self.now.room reader.old reader.new result }
@@ -249,5 +204,6 @@ fn is_named(function: &Function) -> bool
             params: _,
             body: _,
         } => name.is_some(),
+        _ => false,
     }
 }

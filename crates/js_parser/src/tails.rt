@@ -18,9 +18,9 @@ ghost use Rattle.js_parser.specs.Nodes.{Knot, names_eval, CallsHere, ReadsSubsti
 
 use crate::brackets::{ReadItem, items_in_brackets};
 use crate::grammar::Grammar;
-use crate::kinds::{are_same, begins_tail};
+use crate::kinds::{are_same, begins_tail, is_word};
 use crate::marks::{mark, maybe_mark};
-use crate::tall::{Tall, Value, higher};
+use crate::tall::{Cover, Facts, Item, Tall, Value, higher};
 use js_tokens::{Goal, TokenFault, TokenReader};
 use js_tree::{Bracket, Element, Expr, Listed, Stmt, Tail, Template, Token, TokenClass, TokenKind};
 use sqlite_items::{Boxed, Items};
@@ -45,24 +45,25 @@ fn is_eval_name(head: &Expr) -> bool
 
 // What reads arguments.
 #[derive(Drop)]
-struct ArgumentReader<'g, E, S> {
-    rules: &'g Grammar<E, S>,
+struct ArgumentReader<'g, E, C, S> {
+    rules: &'g Grammar<E, C, S>,
 }
 
 impl<
     'g,
     E: Fn(Global, &mut TokenReader<'_>, u32, u8) -> Result<Value, TokenFault>,
+    C: Fn(Global, &mut TokenReader<'_>, u32) -> Result<Cover, TokenFault>,
     S: Fn(Global, &mut TokenReader<'_>, u32) -> Result<Tall<Items<Stmt>>, TokenFault>,
-> ReadItem for ArgumentReader<'g, E, S> {
+> ReadItem for ArgumentReader<'g, E, C, S> {
     type Item = Element<Boxed<Expr>>;
 
     ghost kind = { argument_kind };
 
     ghost room = { λ by. by.rules.now.room - 1 };
 
-    ghost may_read = { λ by. Knot E.Fn S.Fn by.rules.now × (0 < by.rules.now.room) };
+    ghost may_read = { λ by. Knot E.Fn C.Fn S.Fn by.rules.now × (0 < by.rules.now.room) };
 
-    fn item(&self, reader: &mut TokenReader<'_>) -> Result<Tall<Element<Boxed<Expr>>>, TokenFault> {
+    fn item(&self, reader: &mut TokenReader<'_>) -> Result<Item<Element<Boxed<Expr>>>, TokenFault> {
         self.rules.argument(reader)
     }
 
@@ -73,15 +74,16 @@ impl<
 
 impl<
     E: Fn(Global, &mut TokenReader<'_>, u32, u8) -> Result<Value, TokenFault>,
+    C: Fn(Global, &mut TokenReader<'_>, u32) -> Result<Cover, TokenFault>,
     S: Fn(Global, &mut TokenReader<'_>, u32) -> Result<Tall<Items<Stmt>>, TokenFault>,
-> Grammar<E, S> {
+> Grammar<E, C, S> {
     /// The tails that stand next; arguments are among them only where they may be called.
     pub fn tails(
         &self,
         reader: &mut TokenReader<'_>,
         calls: bool,
     ) -> Result<Tall<Items<Tail<Boxed<Expr>>>>, TokenFault>
-        requires knot { Knot E.Fn S.Fn self.now }
+        requires knot { Knot E.Fn C.Fn S.Fn self.now }
         requires some { 0 < self.now.room }
         ensures reads { ReadsTails calls (self.now.room - 1) reader.old reader.new result }
     {
@@ -97,7 +99,7 @@ impl<
 
     // A tail.
     fn tail(&self, reader: &mut TokenReader<'_>) -> Result<Tall<Tail<Boxed<Expr>>>, TokenFault>
-        requires knot { Knot E.Fn S.Fn self.now }
+        requires knot { Knot E.Fn C.Fn S.Fn self.now }
         requires some { 0 < self.now.room }
         ensures reads { ReadsTail (self.now.room - 1) reader.old reader.new result }
         ensures call { CallsHere reader.old result }
@@ -138,7 +140,7 @@ impl<
 
     // A member by a value.
     fn index(&self, reader: &mut TokenReader<'_>) -> Result<Tall<Tail<Boxed<Expr>>>, TokenFault>
-        requires knot { Knot E.Fn S.Fn self.now }
+        requires knot { Knot E.Fn C.Fn S.Fn self.now }
         requires some { 0 < self.now.room }
         requires told { IsNextKind reader.old kinds.LeftBracket }
         ensures reads { ReadsTail (self.now.room - 1) reader.old reader.new result }
@@ -161,13 +163,13 @@ impl<
     pub fn arguments(
         &self,
         reader: &mut TokenReader<'_>,
-    ) -> Result<Tall<Bracket<Boxed<Expr>>>, TokenFault>
-        requires knot { Knot E.Fn S.Fn self.now }
+    ) -> Result<Tall<Bracket<Element<Boxed<Expr>>>>, TokenFault>
+        requires knot { Knot E.Fn C.Fn S.Fn self.now }
         requires some { 0 < self.now.room }
         ensures reads { ReadsArguments (self.now.room - 1) reader.old reader.new result }
     {
         let by = ArgumentReader { rules: self };
-        let Tall { node: all, height } = items_in_brackets(
+        let Item { node, facts } = items_in_brackets(
             self.alloc,
             reader,
             &by,
@@ -175,13 +177,8 @@ impl<
             TokenKind::RightParen,
         )?;
         Ok(Tall {
-            node: Bracket {
-                open: all.left,
-                front: all.inside.front,
-                last: all.inside.last,
-                close: all.right,
-            },
-            height,
+            node,
+            height: facts.height,
         })
     }
 
@@ -189,20 +186,24 @@ impl<
     fn argument(
         &self,
         reader: &mut TokenReader<'_>,
-    ) -> Result<Tall<Element<Boxed<Expr>>>, TokenFault>
-        requires knot { Knot E.Fn S.Fn self.now }
+    ) -> Result<Item<Element<Boxed<Expr>>>, TokenFault>
+        requires knot { Knot E.Fn C.Fn S.Fn self.now }
         requires some { 0 < self.now.room }
         ensures reads { ReadsItem argument_kind (self.now.room - 1) reader.old reader.new result }
     {
         let dots = maybe_mark(self.alloc, reader, TokenKind::Dots)?;
         let value = self.inner(reader, 1)?;
-        Ok(Tall {
+        let facts = Facts {
             height: value.height,
-            node: Element {
-                dots,
-                value: value.node,
-            },
-        })
+            low: value.low,
+            is_sound: true,
+            is_target: value.is_target,
+        };
+        let node = Element {
+            dots,
+            value: value.node,
+        };
+        Ok(Item { node, facts })
     }
 
     /// A template and its substitutions.
@@ -210,7 +211,7 @@ impl<
         &self,
         reader: &mut TokenReader<'_>,
     ) -> Result<Tall<Template<Boxed<Expr>>>, TokenFault>
-        requires knot { Knot E.Fn S.Fn self.now }
+        requires knot { Knot E.Fn C.Fn S.Fn self.now }
         requires some { 0 < self.now.room }
         ensures reads { ReadsTemplate (self.now.room - 1) reader.old reader.new result }
     {
@@ -238,7 +239,7 @@ impl<
         &self,
         reader: &mut TokenReader<'_>,
     ) -> Result<Tall<Items<Listed<Boxed<Expr>>>>, TokenFault>
-        requires knot { Knot E.Fn S.Fn self.now }
+        requires knot { Knot E.Fn C.Fn S.Fn self.now }
         requires some { 0 < self.now.room }
         ensures reads { ReadsSubstitutions (self.now.room - 1) reader.old reader.new result }
     {
@@ -277,13 +278,6 @@ fn is_member_name(kind: TokenKind) -> bool
     ensures { result ≡ operators.is_member_name kind }
 {
     are_same(TokenKind::Name, kind) || is_word(kind)
-}
-
-// Whether the kind is one of the table of words, which come last.
-fn is_word(kind: TokenKind) -> bool
-    ensures { result ≡ operators.is_word kind }
-{
-    TokenKind::Break as u8 <= kind as u8
 }
 
 // Whether a further substitution stands behind this part of a template.
