@@ -92,6 +92,7 @@ abbrev pub statement_of : TokenKind → Statement
 statement_of kind.Function = statement.Function
 statement_of kind.Var = statement.Var
 statement_of kind.Return = statement.Return
+statement_of kind.LeftBrace = statement.Nothing
 statement_of kind.RightBrace = statement.Nothing
 statement_of kind.End = statement.Nothing
 statement_of _ = statement.Plain

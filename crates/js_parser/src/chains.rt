@@ -16,7 +16,7 @@ use crate::tails::is_eval;
 use crate::tall::{Cover, Tall, Value, higher};
 use crate::values::{low_where, place, value};
 use js_tokens::{TokenFault, TokenReader};
-use js_tree::{Bracket, Expr, Stmt, Token, TokenKind, is_target};
+use js_tree::{Bracket, Element, Expr, Stmt, Token, TokenKind, is_target};
 use sqlite_items::{Boxed, Items};
 use std::alloc::Global;
 

@@ -285,6 +285,7 @@ pub fn statement_of(kind: TokenKind) -> Statement
         TokenKind::Function => Statement::Function,
         TokenKind::Var => Statement::Var,
         TokenKind::Return => Statement::Return,
+        TokenKind::LeftBrace => Statement::Nothing,
         TokenKind::RightBrace => Statement::Nothing,
         TokenKind::End => Statement::Nothing,
         _ => Statement::Plain,

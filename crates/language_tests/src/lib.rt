@@ -2,6 +2,8 @@
 #![tactic(auto)]
 
 #[cfg(test)]
+mod cover_tests;
+#[cfg(test)]
 mod js_parser_tests;
 #[cfg(test)]
 mod js_tokens_tests;
