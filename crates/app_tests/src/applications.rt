@@ -82,12 +82,7 @@ fn entry_holds<R: Threads + Abort + Sync>(
     }
 }
 
-fn push_file(
-    alloc: Global,
-    files: &mut Vec<File>,
-    rest: &str,
-    behind: &str,
-) -> Result<(), Fail> {
+fn push_file(alloc: Global, files: &mut Vec<File>, rest: &str, behind: &str) -> Result<(), Fail> {
     let (path, front) = rest.split_once(" ").unwrap_or((rest, ""));
     let mut text = String::from_str(alloc, front)?;
     text.push_str(behind)?;
@@ -101,12 +96,7 @@ fn push_file(
 fn bench_of(alloc: Global, files: &[File]) -> Result<Bench, Fail> {
     let mut bench = empty_bench(alloc);
     for file in files {
-        add(
-            alloc,
-            &mut bench,
-            file.path.as_str(),
-            file.text.as_bytes(),
-        )?;
+        add(alloc, &mut bench, file.path.as_str(), file.text.as_bytes())?;
     }
     Ok(bench)
 }

@@ -66,13 +66,7 @@ pub(crate) fn status_of<R: Threads + Abort + Sync>(
     line: &str,
 ) -> Result<Status, Fail> {
     let words = words_of(alloc, line)?;
-    Ok(ran::<R, Brand>(
-        rt,
-        alloc,
-        bench,
-        words.as_slice(),
-        Blank::new(1),
-    ))
+    Ok(ran::<R, Brand>(rt, alloc, bench, words.as_slice(), Blank::new(1)))
 }
 
 // The words of a line, which stand between spaces.
