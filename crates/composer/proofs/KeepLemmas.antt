@@ -115,6 +115,16 @@ module _ (a : System ℕ ℕ) (n : ℕ) (ways : List (Arrow ℕ)) (rows new outs
       ∙ first_stay rows new v (length (row rows v)) (omega arith) (o.extends v)
       ∙ take_all (length (row rows v)) (row rows v) (omega arith)
 
+  -- the values are what comes next at the vertex
+  pub next_values : ts ≡ drop (get_or carried v 0) (first_of new (set carried v to) v)
+  next_values = given_is ∙ ap (drop (get_or carried v 0)) (sym first_here)
+
+  pub count_values : length ts ≡ to - get_or carried v 0
+  count_values =
+      let a = ap length given_is in
+      let b = length-drop (get_or carried v 0) (row rows v) in
+      omega (arith, a, b, all)
+
   first_there : (u : ℕ) → u ≢ v → first_of new (set carried v to) u ≡ first_of rows carried u
   first_there u ne = ap (λ i. take i (row new u)) (now_there u ne) ∙ first_stay rows new u (get_or carried u 0) (k.within u) (o.extends u)
 

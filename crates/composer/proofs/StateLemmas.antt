@@ -1,7 +1,7 @@
 -- What the calls of the worklist ask for, and what it has spent at its end.
-use Rattle.std.proofs.Common.{◌≡◌, ℕ, zero, suc, ◌+◌, ◌-◌, ◌<◌, ◌≤◌, inl, inr, Bool, true, cond, List, [], ◌∷◌, ◌++◌, length, get_or, take, drop, refl, ap, sym, ◌∙◌, arith, length-drop}
+use Rattle.std.proofs.Common.{◌≡◌, ℕ, zero, suc, ◌+◌, ◌-◌, ◌<◌, ◌≤◌, inl, inr, Bool, true, false, cond, List, [], ◌∷◌, ◌++◌, length, get_or, take, drop, refl, ap, sym, ◌∙◌, arith, length-drop}
 use Rattle.std.specs.Prelude.{All, Contains, nat_eq}
-use Rattle.std.specs.List.{slice_range, sum_by}
+use Rattle.std.specs.List.{IsDistinct, slice_range, sum_by}
 use Rattle.std.proofs.lemmas.Bool.{cases_eq, eq-eqb, ne_eqb}
 use Rattle.std.proofs.lemmas.List.{drop-drop, get_or-drop, get_or-take, length-take}
 use Rattle.std.proofs.lemmas.Grind.{get_or_default_zero}
@@ -14,9 +14,10 @@ use Rattle.composer.specs.Rows.{is_in, row}
 use Rattle.composer.specs.Solution.{InSolution}
 use Rattle.composer.specs.Steps.{inputs}
 use Rattle.composer.specs.Ways.{all_ways}
-use Rattle.composer.specs.Work.{AreThere, Keeps, Rests, callee_places, first_of, input_places, places_of, spent, work_of}
+use Rattle.composer.specs.Work.{AreThere, Keeps, Rests, callee_places, first_of, input_places, places_of, spent, total, work_of}
 use Rattle.composer.proofs.KeepLemmas.{all_carried, among_first, among_last, same_at}
 use Rattle.composer.proofs.SpendLemmas.{spent_whole}
+use Rattle.composer.proofs.UseLemmas.{distinct_total, sum_ones, total_le}
 use Rattle.composer.proofs.WayLemmas.{inputs_in, reason_in, solution_in, values_upto}
 
 -- the place of a number that isn't 0 lies within the list
@@ -96,6 +97,36 @@ pub carried_upto : (a : System ℕ ℕ) (n : ℕ) (ways : List (Arrow ℕ)) (row
 carried_upto a n ways rows outs carried pending inside values k v i j t h =
     let there : is_in t (row rows v) ≡ true = among_last t i (row rows v) (among_first t (j - i) (drop i (row rows v)) h) in
     (solution_in (Below n) (λ y. y ≤ a.native) a inside (values_upto a values) (omega arith) t v (k.found t v there)).0
+
+-- different numbers below n are n at most
+pub few_numbers : (n : ℕ) (xs : List ℕ) → IsDistinct nat_eq xs → ((t : ℕ) → is_in t xs ≡ true → t < n) → length xs ≤ n
+few_numbers n xs distinct below =
+    let ones = sum_ones xs in
+    let sum = distinct_total n xs (λ t. 1) distinct below in
+    let le = total_le 0 n (λ k. cond (is_in k xs) 1 0) (λ k. 1) (λ k _ _. one_at_most (is_in k xs)) in
+    let all = total_ones 0 n in
+    omega (arith, ones, sum, le, all)
+  where
+    one_at_most : (b : Bool) → ◌≤◌ (cond b 1 0) 1
+    one_at_most true = omega arith
+    one_at_most false = omega arith
+
+    total_ones : (k m : ℕ) → total k m (λ i. 1) ≡ m
+    total_ones k zero = refl
+    total_ones k (suc m) = let e = total_ones (suc k) m in omega (arith, e)
+
+-- so few values stand at a vertex
+pub few_held : (a : System ℕ ℕ) (n : ℕ) (ways : List (Arrow ℕ)) (rows outs : List (List ℕ)) (carried pending : List ℕ) → IsSystemIn (Below n) a → HasValues a → Keeps a n ways rows outs carried pending
+    → (v : ℕ) → length (row rows v) ≤ a.native + 1
+few_held a n ways rows outs carried pending inside values k v = few_numbers (a.native + 1) (row rows v) (k.distinct v) below
+  where
+    below : (t : ℕ) → is_in t (row rows v) ≡ true → t < a.native + 1
+    below t h = let b = (solution_in (Below n) (λ y. y ≤ a.native) a inside (values_upto a values) (omega arith) t v (k.found t v h)).0 in omega (arith, b)
+
+-- a list without items
+pub no_items : {X : Type 0} (xs : List X) → length xs ≡ 0 → xs ≡ []
+no_items [] e = refl
+no_items (x ∷ xs) e = absurd (omega (arith, e))
 
 -- where no vertex is pending, each value was carried over each way from its vertex
 pub spent_all : (a : System ℕ ℕ) (n : ℕ) (rows outs : List (List ℕ)) (carried : List ℕ) (natives : List Bool) → IsSystemIn (Below n) a → HasValues a → Rests a n rows outs carried [] natives → spent n carried outs ≡ work_of a (row rows)

@@ -22,7 +22,7 @@ use Rattle.composer.proofs.Renamed.{calls-map, callbacks-map, inputs-map}
 use Rattle.composer.proofs.RowLemmas.{apart}
 use Rattle.composer.proofs.WayLemmas.{native_has_none, value_is_place}
 
-total_le : (k n : ℕ) (g h : ℕ → ℕ) → ((i : ℕ) → k ≤ i → i < k + n → g i ≤ h i) → total k n g ≤ total k n h
+pub total_le : (k n : ℕ) (g h : ℕ → ℕ) → ((i : ℕ) → k ≤ i → i < k + n → g i ≤ h i) → total k n g ≤ total k n h
 total_le k zero g h le = omega arith
 total_le k (suc n) g h le =
     let here : g k ≤ h k = le k (omega arith) (omega arith) in

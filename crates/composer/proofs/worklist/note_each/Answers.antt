@@ -3,7 +3,7 @@ use Rattle.composer.specs.Rows.{row}
 use Rattle.composer.specs.Work.{Notes, Rests, first_of, left, spent}
 use Rattle.composer.proofs.KeepLemmas.{first_stay}
 use Rattle.composer.proofs.NoteLemmas.{Notes-end}
-use Rattle.composer.proofs.StateLemmas.{next_is, next_less, next_rest, none_next}
+use Rattle.composer.proofs.StateLemmas.{few_held, next_is, next_less, next_rest, none_next}
 use Rattle.composer.proofs.worklist.note_each.Goals as goal
 
 pub note-requires-clause-next : goal.note-requires-clause-next
@@ -13,7 +13,18 @@ note-requires-clause-next g c =
     next_is c.loop-value.value-index c.loop-value.noted.count (get_or state.carried.items u 0) c.args.values.now (row state.sets.sets u) c.loop-value.invariant.next c.loop-value-test.true
 
 pub overflow_add-noted : goal.overflow_add-noted
-overflow_add-noted g c = ?
+overflow_add-noted g c =
+    let a = c.args.system.now in
+    let n = length c.args.state.now.outs in
+    let state = c.loop-value.state in
+    let u = c.loop-value.noted.vertex in
+    let i = c.loop-value.noted.count in
+    let inv = c.loop-value.invariant in
+    let less = next_less c.loop-value.value-index i (get_or state.carried.items u 0) c.args.values.now (row state.sets.sets u) inv.next c.loop-value-test.true in
+    let within = inv.notes.keeps.within u in
+    let held = few_held a n inv.notes.ways state.sets.sets state.outs state.carried.items state.pending.items c.requires.inside c.requires.values inv.notes.keeps u in
+    let few = c.requires.few in
+    omega (arith, less, within, held, few)
 
 pub loop-value-preserved : goal.loop-value-preserved
 loop-value-preserved g c =
