@@ -25,9 +25,9 @@ struct ArrayItemReader<'g, E, C, S> {
 
 impl<
     'g,
-    E: Fn(Global, &mut TokenReader<'_>, u32, u8) -> Result<Value, TokenFault>,
-    C: Fn(Global, &mut TokenReader<'_>, u32) -> Result<Cover, TokenFault>,
-    S: Fn(Global, &mut TokenReader<'_>, u32) -> Result<Tall<Items<Stmt>>, TokenFault>,
+    E: Copy + Fn(Global, &mut TokenReader<'_>, u32, u8) -> Result<Value, TokenFault>,
+    C: Copy + Fn(Global, &mut TokenReader<'_>, u32) -> Result<Cover, TokenFault>,
+    S: Copy + Fn(Global, &mut TokenReader<'_>, u32) -> Result<Tall<Items<Stmt>>, TokenFault>,
 > ReadItem for ArrayItemReader<'g, E, C, S> {
     type Item = Option<Element<Boxed<Expr>>>;
 
@@ -68,9 +68,9 @@ struct RoundItemReader<'g, E, C, S> {
 
 impl<
     'g,
-    E: Fn(Global, &mut TokenReader<'_>, u32, u8) -> Result<Value, TokenFault>,
-    C: Fn(Global, &mut TokenReader<'_>, u32) -> Result<Cover, TokenFault>,
-    S: Fn(Global, &mut TokenReader<'_>, u32) -> Result<Tall<Items<Stmt>>, TokenFault>,
+    E: Copy + Fn(Global, &mut TokenReader<'_>, u32, u8) -> Result<Value, TokenFault>,
+    C: Copy + Fn(Global, &mut TokenReader<'_>, u32) -> Result<Cover, TokenFault>,
+    S: Copy + Fn(Global, &mut TokenReader<'_>, u32) -> Result<Tall<Items<Stmt>>, TokenFault>,
 > ReadItem for RoundItemReader<'g, E, C, S> {
     type Item = Element<Boxed<Expr>>;
 
@@ -90,9 +90,9 @@ impl<
 }
 
 impl<
-    E: Fn(Global, &mut TokenReader<'_>, u32, u8) -> Result<Value, TokenFault>,
-    C: Fn(Global, &mut TokenReader<'_>, u32) -> Result<Cover, TokenFault>,
-    S: Fn(Global, &mut TokenReader<'_>, u32) -> Result<Tall<Items<Stmt>>, TokenFault>,
+    E: Copy + Fn(Global, &mut TokenReader<'_>, u32, u8) -> Result<Value, TokenFault>,
+    C: Copy + Fn(Global, &mut TokenReader<'_>, u32) -> Result<Cover, TokenFault>,
+    S: Copy + Fn(Global, &mut TokenReader<'_>, u32) -> Result<Tall<Items<Stmt>>, TokenFault>,
 > Grammar<E, C, S> {
     /// An array.
     pub fn array(&self, reader: &mut TokenReader<'_>) -> Result<Cover, TokenFault>

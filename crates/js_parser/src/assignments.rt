@@ -17,9 +17,9 @@ use sqlite_items::{Boxed, Items};
 use std::alloc::Global;
 
 impl<
-    E: Fn(Global, &mut TokenReader<'_>, u32, u8) -> Result<Value, TokenFault>,
-    C: Fn(Global, &mut TokenReader<'_>, u32) -> Result<Cover, TokenFault>,
-    S: Fn(Global, &mut TokenReader<'_>, u32) -> Result<Tall<Items<Stmt>>, TokenFault>,
+    E: Copy + Fn(Global, &mut TokenReader<'_>, u32, u8) -> Result<Value, TokenFault>,
+    C: Copy + Fn(Global, &mut TokenReader<'_>, u32) -> Result<Cover, TokenFault>,
+    S: Copy + Fn(Global, &mut TokenReader<'_>, u32) -> Result<Tall<Items<Stmt>>, TokenFault>,
 > Grammar<E, C, S> {
     /// What begins with the primary, up to an assignment.
     pub fn behind_primary(
@@ -37,29 +37,11 @@ impl<
         let operand = self.postfix_behind(reader, chain)?;
         let power = self.power_behind(reader, operand)?;
         let test = self.binary_behind(reader, power, 3)?;
-        self.behind_test(reader, test)
+        self.assigned(reader, test)
     }
 
-    /// A choice whose first test is given, or what is assigned to it; else the expression alone.
-    pub fn behind_test(
-        &self,
-        reader: &mut TokenReader<'_>,
-        first: Value,
-    ) -> Result<Cover, TokenFault>
-        requires knot { Knot E.Fn C.Fn S.Fn self.now }
-        requires some { 0 < self.now.room }
-        requires first { ValueAt 3 self.now.room first }
-        ensures reads { GoesOn AfterTest 1 self.now.room first reader.old reader.new result }
-    {
-        if next_strength(reader) == 3 {
-            let whole = self.choice(reader, first)?;
-            return Ok(sound(whole));
-        }
-        self.assigned(reader, first)
-    }
-
-    // What is assigned to the expression, where it is a target and an operator follows; else the expression.
-    fn assigned(&self, reader: &mut TokenReader<'_>, first: Value) -> Result<Cover, TokenFault>
+    /// What is assigned to the expression, where it is a target and an operator follows; else the expression.
+    pub fn assigned(&self, reader: &mut TokenReader<'_>, first: Value) -> Result<Cover, TokenFault>
         requires knot { Knot E.Fn C.Fn S.Fn self.now }
         requires some { 0 < self.now.room }
         requires first { ValueAt 3 self.now.room first }
@@ -111,8 +93,8 @@ impl<
         Ok(sound(value))
     }
 
-    // A choice whose first test is given.
-    fn choice(&self, reader: &mut TokenReader<'_>, first: Value) -> Result<Value, TokenFault>
+    /// A choice whose first test is given.
+    pub fn choice(&self, reader: &mut TokenReader<'_>, first: Value) -> Result<Value, TokenFault>
         requires knot { Knot E.Fn C.Fn S.Fn self.now }
         requires some { 0 < self.now.room }
         requires first { ValueAt 3 self.now.room first }
@@ -123,23 +105,44 @@ impl<
         }
         let mut arms = Items::new(self.alloc);
         let mut height = 0;
-        let mut test = first;
-        'arms: while next_strength(reader) == 3 {
+        let mut last = first;
+        'arms: while is_test(&last) && next_strength(reader) == 3 {
             let Tall {
                 node: arm,
                 height: tall,
-            } = self.arm(reader, test)?;
+            } = self.arm(reader, last)?;
             height = higher(height, tall);
             arms.push(arm)?;
-            test = self.inner(reader, 3)?;
+            last = self.alternative(reader)?;
         }
-        let last = self.assigned(reader, test)?;
-        let below = higher(height, last.value.height);
+        let below = higher(height, last.height);
         let node = Expr::Cond {
             arms,
-            last: last.value.node,
+            last: last.node,
         };
         value(self.alloc, reader, self.room, node, below, 2)
+    }
+
+    // What stands behind the `:` of a choice, up to a further `?`.
+    fn alternative(&self, reader: &mut TokenReader<'_>) -> Result<Value, TokenFault>
+        requires knot { Knot E.Fn C.Fn S.Fn self.now }
+        requires some { 0 < self.now.room }
+        ensures reads { ReadsAlternative (self.now.room - 1) reader.old reader.new result }
+    {
+        let refusal = reader.refusal();
+        if self.room == 1 {
+            return Err(refusal);
+        }
+        let rules = Grammar {
+            alloc: self.alloc,
+            room: self.room - 1,
+            given: self.room - 2,
+            expr: self.expr,
+            item: self.item,
+            stmts: self.stmts,
+        };
+        let cover = rules.unconditional(reader)?;
+        rules.expression_of(refusal, cover)
     }
 
     // The test that is given, and the value where it holds.
@@ -166,4 +169,11 @@ impl<
             },
         })
     }
+}
+
+// Whether the expression may be the test of a choice.
+fn is_test(value: &Value) -> bool
+    ensures { result ≡ nat_le BINARY value.now.rank }
+{
+    3 <= value.rank
 }

@@ -9,9 +9,9 @@ ghost use Rattle.js_parser.specs.Nodes.{Knot, ReadsExpr};
 use crate::chains::calls_eval;
 use crate::grammar::Grammar;
 use crate::kinds::{Opening, are_same, begins_arrow, opening_of};
-use crate::marks::mark;
+use crate::marks::{mark, next_strength};
 use crate::tall::{Cover, Item, Tall, Value};
-use crate::values::{low_where, place};
+use crate::values::{low_where, place, sound};
 use js_cover::{RoundExpr, paren_of};
 use js_tokens::{TokenFault, TokenReader};
 use js_tree::{ArrowParams, Bracket, Element, Expr, Pattern, Slot, Stmt, TokenKind};
@@ -19,9 +19,9 @@ use sqlite_items::{Boxed, Items};
 use std::alloc::Global;
 
 impl<
-    E: Fn(Global, &mut TokenReader<'_>, u32, u8) -> Result<Value, TokenFault>,
-    C: Fn(Global, &mut TokenReader<'_>, u32) -> Result<Cover, TokenFault>,
-    S: Fn(Global, &mut TokenReader<'_>, u32) -> Result<Tall<Items<Stmt>>, TokenFault>,
+    E: Copy + Fn(Global, &mut TokenReader<'_>, u32, u8) -> Result<Value, TokenFault>,
+    C: Copy + Fn(Global, &mut TokenReader<'_>, u32) -> Result<Cover, TokenFault>,
+    S: Copy + Fn(Global, &mut TokenReader<'_>, u32) -> Result<Tall<Items<Stmt>>, TokenFault>,
 > Grammar<E, C, S> {
     /// An expression of the level of an assignment, or what may turn out to be a pattern or a slot. In it what is assigned
     /// may be as tall as `given` says.
@@ -29,6 +29,16 @@ impl<
         requires knot { Knot E.Fn C.Fn S.Fn self.now }
         requires some { 0 < self.now.room }
         ensures reads { ReadsCover self.now.given self.now.room reader.old reader.new result }
+    {
+        let first = self.unconditional(reader)?;
+        self.behind_unconditional(reader, first)
+    }
+
+    /// An item that is no choice, up to a `?` behind it.
+    pub fn unconditional(&self, reader: &mut TokenReader<'_>) -> Result<Cover, TokenFault>
+        requires knot { Knot E.Fn C.Fn S.Fn self.now }
+        requires some { 0 < self.now.room }
+        ensures reads { ReadsUnconditional self.now.given self.now.room reader.old reader.new result }
     {
         match opening_of(reader.kind()) {
             Opening::Round => self.round(reader),
@@ -43,9 +53,35 @@ impl<
             Opening::Name => self.named(reader),
             Opening::Other => {
                 let first = self.binary(reader, 3)?;
-                self.behind_test(reader, first)
+                self.assigned(reader, first)
             }
         }
+    }
+
+    // A choice whose first test is given, where `?` follows; else the item alone.
+    fn behind_unconditional(
+        &self,
+        reader: &mut TokenReader<'_>,
+        first: Cover,
+    ) -> Result<Cover, TokenFault>
+        requires knot { Knot E.Fn C.Fn S.Fn self.now }
+        requires some { 0 < self.now.room }
+        requires first { UnconditionalAt self.now.given self.now.room first }
+        ensures reads { CoverGoesOn (AloneOr Chooses) self.now.given self.now.room first reader.old reader.new result }
+    {
+        if next_strength(reader) != 3 {
+            return Ok(first);
+        }
+        if !self.may_test(&first) {
+            return Ok(first);
+        }
+        let whole = self.choice(reader, first.value)?;
+        Ok(sound(whole))
+    }
+
+    // Whether the cover may be the test of a choice.
+    fn may_test(&self, cover: &Cover) -> bool {
+        3 <= cover.value.rank && self.may_stand(cover)
     }
 
     /// An assignment, an arrow, a choice, or an expression of a higher level: an item that is as an expression must be.
@@ -55,20 +91,17 @@ impl<
         requires given { self.now.given + 1 ≡ self.now.room }
         ensures reads { ReadsExpr 1 self.now.room reader.old reader.new result }
     {
+        let refusal = reader.refusal();
         let item = self.item(reader)?;
-        self.expression_of(reader, item)
+        self.expression_of(refusal, item)
     }
 
-    /// The cover as an expression, where it is as one must be and no taller than the room.
-    pub fn expression_of(
-        &self,
-        reader: &TokenReader<'_>,
-        cover: Cover,
-    ) -> Result<Value, TokenFault>
-        ensures made { MakesExpr self.now.room cover reader.now result }
+    /// The cover as an expression, where it is as one must be and no taller than the room; else the refusal.
+    pub fn expression_of(&self, refusal: TokenFault, cover: Cover) -> Result<Value, TokenFault>
+        ensures made { MakesExpr self.now.room refusal cover result }
     {
         if !self.may_stand(&cover) {
-            return Err(reader.refusal());
+            return Err(refusal);
         }
         Ok(cover.value)
     }
@@ -104,7 +137,7 @@ impl<
         requires knot { Knot E.Fn C.Fn S.Fn self.now }
         requires some { 0 < self.now.room }
         requires told { IsNextKind reader.old kinds.LeftParen }
-        ensures reads { ReadsCover self.now.given self.now.room reader.old reader.new result }
+        ensures reads { ReadsUnconditional self.now.given self.now.room reader.old reader.new result }
     {
         let refusal = reader.refusal();
         let items = self.round_items(reader)?;
@@ -161,7 +194,7 @@ impl<
         requires knot { Knot E.Fn C.Fn S.Fn self.now }
         requires some { 0 < self.now.room }
         requires told { IsNextKind reader.old kinds.Name }
-        ensures reads { ReadsCover self.now.given self.now.room reader.old reader.new result }
+        ensures reads { ReadsUnconditional self.now.given self.now.room reader.old reader.new result }
     {
         let refusal = reader.refusal();
         let name = mark(self.alloc, reader, TokenKind::Name)?;

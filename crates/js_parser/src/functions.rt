@@ -11,9 +11,9 @@ use sqlite_items::Items;
 use std::alloc::Global;
 
 impl<
-    E: Fn(Global, &mut TokenReader<'_>, u32, u8) -> Result<Value, TokenFault>,
-    C: Fn(Global, &mut TokenReader<'_>, u32) -> Result<Cover, TokenFault>,
-    S: Fn(Global, &mut TokenReader<'_>, u32) -> Result<Tall<Items<Stmt>>, TokenFault>,
+    E: Copy + Fn(Global, &mut TokenReader<'_>, u32, u8) -> Result<Value, TokenFault>,
+    C: Copy + Fn(Global, &mut TokenReader<'_>, u32) -> Result<Cover, TokenFault>,
+    S: Copy + Fn(Global, &mut TokenReader<'_>, u32) -> Result<Tall<Items<Stmt>>, TokenFault>,
 > Grammar<E, C, S> {
     /// A function with the word `function`.
     pub fn function(&self, reader: &mut TokenReader<'_>) -> Result<Tall<Function>, TokenFault>

@@ -17,9 +17,9 @@ use sqlite_items::{Boxed, Items};
 use std::alloc::Global;
 
 impl<
-    E: Fn(Global, &mut TokenReader<'_>, u32, u8) -> Result<Value, TokenFault>,
-    C: Fn(Global, &mut TokenReader<'_>, u32) -> Result<Cover, TokenFault>,
-    S: Fn(Global, &mut TokenReader<'_>, u32) -> Result<Tall<Items<Stmt>>, TokenFault>,
+    E: Copy + Fn(Global, &mut TokenReader<'_>, u32, u8) -> Result<Value, TokenFault>,
+    C: Copy + Fn(Global, &mut TokenReader<'_>, u32) -> Result<Cover, TokenFault>,
+    S: Copy + Fn(Global, &mut TokenReader<'_>, u32) -> Result<Tall<Items<Stmt>>, TokenFault>,
 > Grammar<E, C, S> {
     /// A primary.
     pub fn primary(&self, reader: &mut TokenReader<'_>) -> Result<Value, TokenFault>
@@ -149,8 +149,9 @@ impl<
         requires told { LeadsTo sorts.Array reader.old }
         ensures reads { ReadsExpr 18 self.now.room reader.old reader.new result }
     {
+        let refusal = reader.refusal();
         let cover = self.array(reader)?;
-        self.expression_of(reader, cover)
+        self.expression_of(refusal, cover)
     }
 
     // An object where no pattern can stand.
@@ -160,8 +161,9 @@ impl<
         requires told { LeadsTo sorts.Object reader.old }
         ensures reads { ReadsExpr 18 self.now.room reader.old reader.new result }
     {
+        let refusal = reader.refusal();
         let cover = self.object(reader)?;
-        self.expression_of(reader, cover)
+        self.expression_of(refusal, cover)
     }
 
     // A function as a value.

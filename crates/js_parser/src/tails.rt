@@ -51,9 +51,9 @@ struct ArgumentReader<'g, E, C, S> {
 
 impl<
     'g,
-    E: Fn(Global, &mut TokenReader<'_>, u32, u8) -> Result<Value, TokenFault>,
-    C: Fn(Global, &mut TokenReader<'_>, u32) -> Result<Cover, TokenFault>,
-    S: Fn(Global, &mut TokenReader<'_>, u32) -> Result<Tall<Items<Stmt>>, TokenFault>,
+    E: Copy + Fn(Global, &mut TokenReader<'_>, u32, u8) -> Result<Value, TokenFault>,
+    C: Copy + Fn(Global, &mut TokenReader<'_>, u32) -> Result<Cover, TokenFault>,
+    S: Copy + Fn(Global, &mut TokenReader<'_>, u32) -> Result<Tall<Items<Stmt>>, TokenFault>,
 > ReadItem for ArgumentReader<'g, E, C, S> {
     type Item = Element<Boxed<Expr>>;
 
@@ -73,9 +73,9 @@ impl<
 }
 
 impl<
-    E: Fn(Global, &mut TokenReader<'_>, u32, u8) -> Result<Value, TokenFault>,
-    C: Fn(Global, &mut TokenReader<'_>, u32) -> Result<Cover, TokenFault>,
-    S: Fn(Global, &mut TokenReader<'_>, u32) -> Result<Tall<Items<Stmt>>, TokenFault>,
+    E: Copy + Fn(Global, &mut TokenReader<'_>, u32, u8) -> Result<Value, TokenFault>,
+    C: Copy + Fn(Global, &mut TokenReader<'_>, u32) -> Result<Cover, TokenFault>,
+    S: Copy + Fn(Global, &mut TokenReader<'_>, u32) -> Result<Tall<Items<Stmt>>, TokenFault>,
 > Grammar<E, C, S> {
     /// The tails that stand next; arguments are among them only where they may be called.
     pub fn tails(
