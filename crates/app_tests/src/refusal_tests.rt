@@ -152,7 +152,7 @@ file index.js
 file node_modules/a/index.js
     function slow(x) { return x; }
     exports.go = function (x) { return slow(x); };
-calls 14 1 audit adv.json
+calls 15 1 audit adv.json
     alarm X-1 a 1.1.0 node_modules/a/index.js:1:1 slow
       index.js:2:5 -> node_modules/a/index.js:2:14 go
       node_modules/a/index.js:2:40 -> node_modules/a/index.js:1:1 slow
