@@ -58,10 +58,7 @@ pub(crate) fn file_answer(alloc: Global, row: &str) -> Result<String, Fail> {
     let (from, spec) = rest.split_once(" | ").ok_or("a module")?;
     let mut folder = folder_of(alloc, files)?;
     let from = ModulePath::read(alloc, from)?.ok_or("from")?;
-    Ok(target_text(
-        alloc,
-        &resolve(alloc, &mut folder, &from, spec)?,
-    )?)
+    Ok(target_text(alloc, &resolve(alloc, &mut folder, &from, spec)?)?)
 }
 
 #[test]
@@ -89,10 +86,7 @@ pub(crate) fn entry_answer(alloc: Global, row: &str) -> Result<String, Fail> {
         None => (row, None),
     };
     let mut folder = folder_of(alloc, files)?;
-    Ok(target_text(
-        alloc,
-        &entry_of(alloc, &mut folder, entry)?,
-    )?)
+    Ok(target_text(alloc, &entry_of(alloc, &mut folder, entry)?)?)
 }
 
 // A target as text: its path, with a mark before one that is no code.

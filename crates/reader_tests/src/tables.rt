@@ -2,7 +2,9 @@
 //! spaces, which don't count. `¶`, `␍`, `␉` and `␀` stand for the two characters of a line end, the tab and the
 //! character NUL, and `∅` stands for nothing. A line that begins with `# ` is a heading.
 use crate::advisory_reader_tests::{advisories_answer, advisory_answer};
-use crate::jam_base_tests::{join_answer, package_answer, parent_answer, path_answer, place_answer};
+use crate::jam_base_tests::{
+    join_answer, package_answer, parent_answer, path_answer, place_answer,
+};
 use crate::lock_reader_tests::{lock_answer, owner_answer};
 use crate::node_resolve_tests::{entry_answer, file_answer};
 use crate::npm_range_tests::{range_answer, versions_answer};
