@@ -21,7 +21,7 @@ use Rattle.js_tokens.specs.declared.fault.TokenFault.{TokenFault}
 use Rattle.js_parser.specs.declared.tall.Tall.{Tall}
 use Rattle.js_parser.specs.declared.tall.Value.{Value}
 use Rattle.js_parser.specs.Nodes.{ValueAt, ValueStops, expr_line, further_line, further_stands, list_layer, tail_stands, tails_line, value_line}
-use Rattle.js_parser.specs.Patterns.{Covers}
+use Rattle.js_cover.specs.Covers.{Covers}
 
 -- what makes a first expression another one: of both, and of the pieces behind the first and behind the other
 abbrev pub Behind : Type 1
@@ -142,15 +142,8 @@ pub record ReadsArm (room : ℕ) (test : Value) (m n : Place) (result : Result (
   pub moves : Moves m n result
   pub shorter : IfOk result (λ x. length n.left < length m.left)
 
--- what is assigned to a test, or the rest of a choice
-pub data AfterTest (head x : Value) (behind rest : List Piece) : Type 0 where
-  IsAssigned : AloneOr AssignsTo head x behind rest → AfterTest head x behind rest
-  IsChosen : Chooses head x behind rest → AfterTest head x behind rest
-  IsNever : ((m : Place) → Reads m behind → ⊥) → AfterTest head x behind rest
-
 -- ALL OF THEM
 
--- what begins with a primary, up to an assignment
+-- what begins with a primary, up to the test of a choice
 abbrev pub AfterPrimary : ℕ → Behind
-AfterPrimary room =
-    Through (Through (Through (Through (AloneOr TakesTails) (AloneOr UpdatesTarget) CHAIN room) (AloneOr Raises) POSTFIX room) (JoinsFrom room BINARY) POWER room) AfterTest BINARY room
+AfterPrimary room = Through (Through (Through (AloneOr TakesTails) (AloneOr UpdatesTarget) CHAIN room) (AloneOr Raises) POSTFIX room) (JoinsFrom room BINARY) POWER room

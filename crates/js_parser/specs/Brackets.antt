@@ -1,40 +1,34 @@
 -- Items by commas in brackets, as they are read.
-use Rattle.std.specs.Prelude.{◌≡◌, ℕ, ◌≤◌, max, List, [], ◌∷◌, ◌++◌, Option, Some, None, Bool, true, false, Result}
+use Rattle.std.specs.Prelude.{◌≡◌, ℕ, ◌≤◌, max, List, [], ◌∷◌, ◌++◌, Option, Some, None, Bool, true, false, ◌&&◌, Result}
+use Rattle.js_tree.specs.declared.lists.Bracket.{Bracket}
 use Rattle.js_tree.specs.declared.lists.Element.{Element}
 use Rattle.js_tree.specs.declared.lists.Listed.{Listed}
 use Rattle.js_tree.specs.declared.token.Token.{Token}
 use Rattle.js_tree.specs.declared.token_kind.TokenKind.{TokenKind}
 use Rattle.js_tree.specs.declared.token_kind.TokenKind.TheVariants as kind
 use Rattle.js_tree.specs.declared.tree.Expr.{Expr}
-use Rattle.js_tree.specs.declared.tree.Slot.{Slot}
 use Rattle.js_tree.specs.Lexing.{Place}
 use Rattle.js_tree.specs.Pieces.{Piece, Tok, Onto}
-use Rattle.js_tree.specs.Spelling.{expr, slot, tallest_of}
+use Rattle.js_tree.specs.Spelling.{expr}
 use Rattle.js_tree.specs.Spelling.Nodes.{ASSIGN, pieces}
-use Rattle.js_tree.specs.Spelling.Rows.{each_of, element_row, listed_row, mark, maybe}
+use Rattle.js_tree.specs.Spelling.Rows.{bracket_row, each_of, element_row, listed_row, maybe}
 use Rattle.js_tree.specs.TokenKinds.{is}
 use Rattle.js_tokens.specs.Ahead.{reads}
 use Rattle.js_tokens.specs.declared.fault.TokenFault.{TokenFault}
 use Rattle.js_tokens.specs.declared.goal.Goal.TheVariants as goal
 use Rattle.js_tokens.specs.Pieces.{Anywhere}
-use Rattle.js_parser.specs.declared.brackets.Enclosed.{Enclosed}
 use Rattle.js_parser.specs.declared.brackets.Inside.{Inside}
-use Rattle.js_parser.specs.declared.tall.Tall.{Tall}
+use Rattle.js_parser.specs.declared.tall.Facts.{Facts}
+use Rattle.js_parser.specs.declared.tall.Item.{Item}
+use Rattle.js_cover.specs.Rooms.{Every, IfThere}
 use Rattle.js_parser.specs.Following.{NoKind, Stops, strength}
-use Rattle.js_parser.specs.Nodes.{ReadsAs, ReadsMaybe, argument_stands, expr_line, parameter_stands, slot_line}
+use Rattle.js_parser.specs.Low.{low}
+use Rattle.js_parser.specs.Nodes.{ReadsAs, ReadsMaybe, argument_stands, expr_line}
 
 -- an item with a comma behind it goes to the end of the front, one without is the last
 abbrev pub Puts : {X : Type 0} → X → Option Token → List (Listed X) → Option X → List (Listed X) → Option X → Type 0
 Puts item (Some mark) front last front' last' = (front' ≡ front ++ record { item = item; mark = mark } ∷ []) × (last' ≡ last)
 Puts item None front last front' last' = (front' ≡ front) × (last' ≡ Some item)
-
--- the height of the tallest item, or 0
-abbrev pub last_height : {X : Type 0} → (X → ℕ) → Option X → ℕ
-last_height height None = 0
-last_height height (Some x) = height x
-
-abbrev pub inside_height : {X : Type 0} → (X → ℕ) → List (Listed X) → Option X → ℕ
-inside_height height front last = max (tallest_of (λ x. height x.item) front) (last_height height last)
 
 -- a token of the kind stands before what follows
 abbrev pub Before : TokenKind → List Piece → Type 0
@@ -55,35 +49,32 @@ pub record Opens (begin : TokenKind) : Type 0 where
 
 -- ITEMS
 
--- P holds of each item
-abbrev pub Every : {X : Type 0} → (X → Type 0) → List (Listed X) → Type 0
-Every P [] = Unit {0}
-Every P (x ∷ xs) = P x.item × Every P xs
+-- what is known of no item, and of items and one more
+abbrev pub no_facts : Facts
+no_facts = record { height = 0; low = 0; is_sound = true; is_target = false }
 
--- P holds of what is there
-abbrev pub IfThere : {X : Type 0} → (X → Type 0) → Option X → Type 0
-IfThere P None = Unit {0}
-IfThere P (Some x) = P x
+abbrev pub joint_facts : Facts → Facts → Facts
+joint_facts all more = record { height = max all.height more.height; low = max all.low more.low; is_sound = all.is_sound && more.is_sound; is_target = more.is_target }
 
 -- what is asked of the items of a list: how each is spelled, which may stand in a room, which may stand last with no comma
--- behind them, and how tall each is
+-- behind them, and what is known of each
 pub record ItemKind (X : Type 0) : Type 1 where
   pub line : X → Onto
   pub holds : ℕ → X → Type 0
   pub ends : X → Bool
-  pub tall : X → ℕ
+  pub facts : X → Facts
 
 module _ {X : Type 0} (k : ItemKind X) where
-  -- an item that may stand in the room, with its height
-  pub record ItemAt (room : ℕ) (x : Tall X) : Type 0 where
+  -- an item that may stand in the room, with what is known of it
+  pub record ItemAt (room : ℕ) (x : Item X) : Type 0 where
     pub holds : k.holds room x.node
-    pub height : x.height ≡ k.tall x.node
+    pub facts : x.facts ≡ k.facts x.node
 
   -- no expression goes on, and a comma follows an item that may not be the last
   abbrev pub AfterItem : X → List Piece → Type 0
   AfterItem x rest = Stops ASSIGN rest × (k.ends x ≡ false → Before kind.Comma rest)
 
-  abbrev pub ReadsItem : ℕ → Place → Place → Result (Tall X) TokenFault → Type 0
+  abbrev pub ReadsItem : ℕ → Place → Place → Result (Item X) TokenFault → Type 0
   ReadsItem room = ReadsMaybe (λ x. k.line x.node) (ItemAt room) (λ x. AfterItem x.node)
 
   -- no item begins with the bracket that closes
@@ -103,32 +94,45 @@ module _ {X : Type 0} (k : ItemKind X) where
     pub each : Every (k.holds room) front
     pub end : IfThere (HoldsLast room) last
 
-  pub record InsideAt (room : ℕ) (x : Tall (Inside X)) : Type 0 where
-    pub all : AllHold room x.node.front x.node.last
-    pub height : x.height ≡ inside_height k.tall x.node.front x.node.last
+  -- what is known of those behind which a comma stands, behind others, and of all
+  abbrev pub front_facts : Facts → List (Listed X) → Facts
+  front_facts before [] = before
+  front_facts before (x ∷ xs) = front_facts (joint_facts before (k.facts x.item)) xs
 
-  abbrev pub ReadsInside : TokenKind → ℕ → Place → Place → Result (Tall (Inside X)) TokenFault → Type 0
+  abbrev pub last_facts : Facts → Option X → Facts
+  last_facts before None = before
+  last_facts before (Some x) = joint_facts before (k.facts x)
+
+  abbrev pub inside_facts : List (Listed X) → Option X → Facts
+  inside_facts front last = last_facts (front_facts no_facts front) last
+
+  pub record InsideAt (room : ℕ) (x : Item (Inside X)) : Type 0 where
+    pub all : AllHold room x.node.front x.node.last
+    pub facts : x.facts ≡ inside_facts x.node.front x.node.last
+
+  abbrev pub ReadsInside : TokenKind → ℕ → Place → Place → Result (Item (Inside X)) TokenFault → Type 0
   ReadsInside close room = ReadsMaybe (λ x. inside_line x.node) (InsideAt room) (λ x. Before close)
 
   -- IN THEIR BRACKETS
 
-  abbrev pub enclosed_line : (begin close : TokenKind) → Enclosed X → Onto
-  enclosed_line begin close x rest = mark pieces begin x.left (inside_line x.inside (mark pieces close x.right rest))
+  pub record EnclosedAt (room : ℕ) (x : Item (Bracket X)) : Type 0 where
+    pub all : AllHold room x.node.front x.node.last
+    pub facts : x.facts ≡ inside_facts x.node.front x.node.last
 
-  abbrev pub EnclosedAt : ℕ → Tall (Enclosed X) → Type 0
-  EnclosedAt room x = InsideAt room (record { node = x.node.inside; height = x.height })
+  abbrev pub ReadsEnclosed : (begin close : TokenKind) → ℕ → Place → Place → Result (Item (Bracket X)) TokenFault → Type 0
+  ReadsEnclosed begin close room = ReadsAs (λ x. bracket_row pieces begin close k.line x.node) (EnclosedAt room) (Anywhere (Item (Bracket X)))
 
-  abbrev pub ReadsEnclosed : (begin close : TokenKind) → ℕ → Place → Place → Result (Tall (Enclosed X)) TokenFault → Type 0
-  ReadsEnclosed begin close room = ReadsAs (λ x. enclosed_line begin close x.node) (EnclosedAt room) (Anywhere (Tall (Enclosed X)))
+-- ARGUMENTS
 
--- ARGUMENTS AND PARAMETERS
+-- what is known of an expression
+abbrev pub expr_facts : Expr → Facts
+expr_facts x = record { height = (expr x).height; low = low x; is_sound = (expr x).is_sound; is_target = (expr x).is_target }
 
--- elements as is asked, each of which may stand last
-abbrev pub element_kind : {Y : Type 0} → (Y → Onto) → (Element Y → Bool) → (Y → ℕ) → ItemKind (Element Y)
-element_kind line stands tall = record { line = element_row pieces line; holds = λ room x. (stands x ≡ true) × (tall x.value ≤ room); ends = λ x. true; tall = λ x. tall x.value }
+abbrev pub element_facts : Element Expr → Facts
+element_facts x = expr_facts x.value
+
+abbrev pub element_line : Element Expr → Onto
+element_line = element_row pieces expr_line
 
 abbrev pub argument_kind : ItemKind (Element Expr)
-argument_kind = element_kind expr_line argument_stands (λ (x : Expr). (expr x).height)
-
-abbrev pub parameter_kind : ItemKind (Element Slot)
-parameter_kind = element_kind slot_line parameter_stands (λ (x : Slot). (slot x).height)
+argument_kind = record { line = element_line; holds = λ room x. (argument_stands x ≡ true) × ((expr x.value).height ≤ room); ends = λ x. true; facts = element_facts }

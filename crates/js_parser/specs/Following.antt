@@ -1,8 +1,8 @@
 -- With which tokens an expression goes on.
-use Rattle.std.specs.Prelude.{◌≡◌, ℕ, ◌+◌, ◌-◌, ◌<◌, ◌≤◌, ◌==◌, nat_lt, List, Bool, true, false, ◌&&◌, if◌then◌else◌}
+use Rattle.std.specs.Prelude.{◌≡◌, ℕ, ◌+◌, ◌-◌, ◌<◌, ◌≤◌, ◌==◌, nat_lt, List, Bool, true, false, ◌&&◌, not, if◌then◌else◌}
 use Rattle.js_tree.specs.Lexical.{Next}
 use Rattle.js_tree.specs.Lexing.{Place}
-use Rattle.js_tree.specs.Operators.{is_assignment, is_binary, is_update, level_of}
+use Rattle.js_tree.specs.Operators.{is_assignment, is_binary, is_update, is_word, level_of}
 use Rattle.js_tree.specs.Pieces.{Piece, kind as kind_of}
 use Rattle.js_tree.specs.Spelling.Nodes.{ASSIGN, COND, POWER, POSTFIX, CHAIN, NEW, binary_rank}
 use Rattle.js_tree.specs.TokenKinds.{is}
@@ -12,8 +12,12 @@ use Rattle.js_tree.specs.declared.token_kind.TokenKind.TheVariants as kind
 use Rattle.js_tokens.specs.Ahead.{reads, IsNextKind}
 use Rattle.js_tokens.specs.Pieces.{Reads}
 use Rattle.js_tokens.specs.declared.goal.Goal.TheVariants as goal
+use Rattle.js_parser.specs.declared.kinds.Opening.{Opening}
+use Rattle.js_parser.specs.declared.kinds.Opening.TheVariants as opening
 use Rattle.js_parser.specs.declared.kinds.Primary.{Primary}
 use Rattle.js_parser.specs.declared.kinds.Primary.TheVariants as primary
+use Rattle.js_parser.specs.declared.kinds.PropertyStart.{PropertyStart}
+use Rattle.js_parser.specs.declared.kinds.PropertyStart.TheVariants as property
 use Rattle.js_parser.specs.declared.kinds.Statement.{Statement}
 use Rattle.js_parser.specs.declared.kinds.Statement.TheVariants as statement
 
@@ -37,6 +41,7 @@ abbrev pub strength : TokenKind → Bool → ℕ
 strength k nl =
     if is kind.Comma k then 1
     else if is_assignment k then ASSIGN + 1
+    else if is kind.Arrow k then (if nl then 0 else ASSIGN + 1)
     else if is kind.Question k then COND + 1
     else if nat_lt 0 (level_of k) then binary_rank (level_of k) + 1
     else if is kind.Stars k then POWER + 1
@@ -84,8 +89,34 @@ primary_of kind.SlashAssign = primary.Literal
 primary_of kind.TemplateWhole = primary.Template
 primary_of kind.TemplateHead = primary.Template
 primary_of kind.LeftParen = primary.Paren
+primary_of kind.LeftBracket = primary.Array
+primary_of kind.LeftBrace = primary.Object
 primary_of kind.Function = primary.Function
 primary_of _ = primary.Nothing
+
+-- with what an expression begins that may turn out to be a pattern
+abbrev pub opening_of : TokenKind → Opening
+opening_of kind.LeftParen = opening.Round
+opening_of kind.LeftBracket = opening.Square
+opening_of kind.LeftBrace = opening.Brace
+opening_of kind.Name = opening.Name
+opening_of _ = opening.Other
+
+-- what a property of an object is by its first token
+abbrev pub word_key : TokenKind → PropertyStart
+word_key k = if is_word k then property.Key else property.Nothing
+
+abbrev pub property_of : TokenKind → PropertyStart
+property_of kind.Dots = property.Spread
+property_of kind.LeftBracket = property.Computed
+property_of kind.Name = property.Name
+property_of kind.Str = property.Key
+property_of kind.Number = property.Key
+property_of k = word_key k
+
+-- `=>`, which stands on the line of the parameters
+abbrev pub begins_arrow : TokenKind → Bool → Bool
+begins_arrow k nl = is kind.Arrow k && not nl
 
 -- what a statement is by its first token
 abbrev pub statement_of : TokenKind → Statement
@@ -103,9 +134,12 @@ closes kind.RightBrace = true
 closes kind.End = true
 closes _ = false
 
--- a primary of the sort, a statement of the sort would begin at p
+-- a primary, a property, a statement of the sort would begin at p
 abbrev pub LeadsTo : Primary → Place → Type 0
 LeadsTo sort p = (k : TokenKind) × IsNextKind p k × (primary_of k ≡ sort)
+
+abbrev pub LeadsToProperty : PropertyStart → Place → Type 0
+LeadsToProperty sort p = (k : TokenKind) × IsNextKind p k × (property_of k ≡ sort)
 
 abbrev pub LeadsToStmt : Statement → Place → Type 0
 LeadsToStmt sort p = (k : TokenKind) × IsNextKind p k × (statement_of k ≡ sort)

@@ -2,14 +2,10 @@
 use Rattle.std.specs.Prelude.{◌≡◌, ℕ, ◌+◌, ◌≤◌, ◌<◌, ◌==◌, ◌-◌, nat_le, max, if◌then◌else◌, List, [], ◌∷◌, length, Option, is_some, ◌⊎◌, Result, IfOk, IfErr, Bool, true, false, ◌&&◌, ◌||◌, not, codes}
 use Rattle.std.specs.List.{list_all}
 use Rattle.std.specs.Str.{bytes_eq}
-use Rattle.std.specs.declared.alloc.Global.{Global}
-use denote.Param.Members.{Shared}
-use denote.Ref.{MutBor}
 use Rattle.js_tree.specs.declared.lists.Block.{Block}
 use Rattle.js_tree.specs.declared.lists.Bracket.{Bracket}
 use Rattle.js_tree.specs.declared.lists.Element.{Element}
 use Rattle.js_tree.specs.declared.lists.Further.{Further}
-use Rattle.js_tree.specs.declared.lists.Init.{Init}
 use Rattle.js_tree.specs.declared.lists.Listed.{Listed}
 use Rattle.js_tree.specs.declared.lists.Tail.{Tail}
 use Rattle.js_tree.specs.declared.lists.Tail.TheVariants as tail
@@ -26,18 +22,18 @@ use Rattle.js_tree.specs.Folds.{ExprLayer}
 use Rattle.js_tree.specs.Lexing.{Place}
 use Rattle.js_tree.specs.Pieces.{Piece, Tok, Ahead, Onto}
 use Rattle.js_tree.specs.Spelling.{expr, function, slot, stmt, stmts, stmts_height, tallest_of}
-use Rattle.js_tree.specs.Spelling.Functions.{parameter_fits}
 use Rattle.js_tree.specs.Operators.{on_line}
 use Rattle.js_tree.specs.Spelling.Chains.{is_call}
 use Rattle.js_tree.specs.Spelling.Patterns.{DECLARED}
-use Rattle.js_tree.specs.Spelling.Nodes.{ASSIGN, BINARY, POWER, UNARY, NEW, pieces, unmarked, stands, is_empty, all_within, passes}
-use Rattle.js_tree.specs.Spelling.Rows.{mark, each_of, maybe, init_row, bracket_row, further_row, template_parts, template_row, tail_row}
+use Rattle.js_tree.specs.Spelling.Statements.{declaration_fits}
+use Rattle.js_tree.specs.Spelling.Nodes.{ASSIGN, BINARY, POWER, UNARY, NEW, pieces, unmarked, stands, is_empty, all_within, all_in_front, is_plain, passes}
+use Rattle.js_tree.specs.Spelling.Rows.{mark, each_of, maybe, round_row, further_row, template_parts, template_row, tail_row}
 use Rattle.js_tree.specs.TokenKinds.{is}
 use Rattle.js_tokens.specs.Pieces.{Read, OnlyRead, Gives, Moves, Refuses, Anywhere}
 use Rattle.js_tokens.specs.declared.fault.TokenFault.{TokenFault}
-use Rattle.js_parser.specs.declared.grammar.Grammar.{Grammar}
 use Rattle.js_parser.specs.declared.tall.Tall.{Tall}
 use Rattle.js_parser.specs.declared.tall.Value.{Value}
+use Rattle.js_parser.specs.Low.{low}
 use Rattle.js_parser.specs.Following.{Stops, NoKind, Leads, rest_level, separates, begins_tail}
 
 -- LINES
@@ -54,11 +50,11 @@ stmt_line x = (stmt x).line
 abbrev pub value_line : Value → Onto
 value_line x = expr_line x.node
 
-abbrev pub arguments_line : Bracket Expr → Onto
-arguments_line = bracket_row pieces expr_line
+abbrev pub arguments_line : Bracket (Element Expr) → Onto
+arguments_line = round_row pieces expr_line
 
-abbrev pub parameters_line : Bracket Slot → Onto
-parameters_line = bracket_row pieces slot_line
+abbrev pub parameters_line : Bracket (Element Slot) → Onto
+parameters_line = round_row pieces slot_line
 
 abbrev pub template_line : Template Expr → Onto
 template_line = template_row pieces expr_line
@@ -99,13 +95,15 @@ NoMark k o rest = is_some o ≡ false → NoKind (is k) rest
 abbrev pub is_level : ℕ → Bool
 is_level level = level == 0 || level == ASSIGN || (nat_le BINARY level && nat_le level UNARY) || level == NEW
 
--- an expression of the level, no taller than the room, with its rank, its height and whether it is a target
+-- an expression of the level, no taller than the room, with its rank, its height, whether it is a target, and the height of the
+-- slot with its tokens
 pub record ValueAt (level room : ℕ) (x : Value) : Type 0 where
   pub stands : stands level (expr x.node) ≡ true
   pub rank : x.rank ≡ (expr x.node).rank
   pub target : x.is_target ≡ (expr x.node).is_target
   pub height : x.height ≡ (expr x.node).height
   pub fits : x.height ≤ room
+  pub low : x.low ≡ low x.node
 
 -- the expression doesn't go on with the pieces
 abbrev pub ValueStops : ℕ → Value → List Piece → Type 0
@@ -115,12 +113,14 @@ ValueStops level x rest = Stops (rest_level level (expr x.node).rank) rest
 abbrev pub ReadsExpr : (level room : ℕ) → Place → Place → Result Value TokenFault → Type 0
 ReadsExpr level room = ReadsAs value_line (ValueAt level room) (ValueStops level)
 
--- the expression is as it must be, and has this rank and this height above what stands in it
-pub record IsSeen (x : Expr) (below order : ℕ) (is_target : Bool) : Type 0 where
+-- the expression is as it must be, has this rank and this height above what stands in it, is a target or not, and the slot with
+-- its tokens has this height
+pub record IsSeen (x : Expr) (below order : ℕ) (is_target : Bool) (least : ℕ) : Type 0 where
   pub sound : (expr x).is_sound ≡ true
   pub rank : order ≡ (expr x).rank
   pub target : is_target ≡ (expr x).is_target
   pub height : below + 1 ≡ (expr x).height
+  pub low : least ≡ low x
 
 -- the answer is the expression as a value, refused where it is too tall
 pub record Makes (rank room : ℕ) (x : Expr) (p : Place) (result : Result Value TokenFault) : Type 0 where
@@ -175,29 +175,33 @@ list_layer rank first others = if rank == 0 then Expr-F.Comma first others else 
 abbrev pub argument_stands : Element Expr → Bool
 argument_stands x = stands ASSIGN (expr x.value)
 
--- each item in brackets is as is asked, and none is taller than the room
-pub record BracketAt {Y : Type 0} (stands : Element Y → Bool) (tall : Y → ℕ) (room : ℕ) (x : Tall (Bracket Y)) : Type 0 where
-  pub each : all_within stands x.node ≡ true
-  pub height : x.height ≡ bracket_row unmarked (λ (y : Y) h. max (tall y) h) x.node 0
+-- the height of the highest item in round brackets
+abbrev pub round_height : {Y : Type 0} → (Y → ℕ) → Bracket (Element Y) → ℕ
+round_height {Y} tall b = round_row unmarked (λ (y : Y) h. max (tall y) h) b 0
+
+abbrev pub arguments_stand : Bracket (Element Expr) → Bool
+arguments_stand = all_within argument_stands
+
+-- arguments, none taller than the room
+pub record ArgumentsAt (room : ℕ) (x : Tall (Bracket (Element Expr))) : Type 0 where
+  pub each : arguments_stand x.node ≡ true
+  pub height : x.height ≡ round_height (λ (y : Expr). (expr y).height) x.node
   pub fits : x.height ≤ room
 
-abbrev pub ArgumentsAt : ℕ → Tall (Bracket Expr) → Type 0
-ArgumentsAt = BracketAt argument_stands (λ (x : Expr). (expr x).height)
-
-abbrev pub ReadsArguments : ℕ → Place → Place → Result (Tall (Bracket Expr)) TokenFault → Type 0
-ReadsArguments room = ReadsAs (λ x. arguments_line x.node) (ArgumentsAt room) (Anywhere (Tall (Bracket Expr)))
+abbrev pub ReadsArguments : ℕ → Place → Place → Result (Tall (Bracket (Element Expr))) TokenFault → Type 0
+ReadsArguments room = ReadsAs (λ x. arguments_line x.node) (ArgumentsAt room) (Anywhere (Tall (Bracket (Element Expr))))
 
 -- arguments, where there are any
-pub record MaybeArgumentsAt (room : ℕ) (x : Tall (Option (Bracket Expr))) : Type 0 where
-  pub each : passes (all_within argument_stands) x.node ≡ true
-  pub height : x.height ≡ maybe (bracket_row unmarked higher) x.node 0
+pub record MaybeArgumentsAt (room : ℕ) (x : Tall (Option (Bracket (Element Expr)))) : Type 0 where
+  pub each : passes arguments_stand x.node ≡ true
+  pub height : x.height ≡ maybe (round_row unmarked higher) x.node 0
   pub fits : x.height ≤ room
 
 -- no arguments follow where there are none
-abbrev pub NoArguments : Tall (Option (Bracket Expr)) → List Piece → Type 0
+abbrev pub NoArguments : Tall (Option (Bracket (Element Expr))) → List Piece → Type 0
 NoArguments x rest = is_some x.node ≡ false → NoKind (is kind.LeftParen) rest
 
-abbrev pub ReadsMaybeArguments : ℕ → Place → Place → Result (Tall (Option (Bracket Expr))) TokenFault → Type 0
+abbrev pub ReadsMaybeArguments : ℕ → Place → Place → Result (Tall (Option (Bracket (Element Expr)))) TokenFault → Type 0
 ReadsMaybeArguments room = ReadsMaybe (λ x. maybe arguments_line x.node) (MaybeArgumentsAt room) NoArguments
 
 abbrev pub substitution_stands : Listed Expr → Bool
@@ -230,7 +234,7 @@ names_eval _ = false
 abbrev pub tail_stands : Tail Expr → Bool
 tail_stands (tail.Member dot name) = true
 tail_stands (tail.Index begin value end) = stands 0 (expr value)
-tail_stands (tail.Call b) = all_within argument_stands b
+tail_stands (tail.Call b) = arguments_stand b
 tail_stands (tail.Template t) = list_all substitution_stands t.parts
 
 abbrev pub tail_height : Tail Expr → ℕ
@@ -262,11 +266,15 @@ ReadsTails calls room = ReadsMaybe (λ x. tails_line x.node) (TailsAt calls room
 
 -- FUNCTIONS
 
-abbrev pub parameter_stands : Element Slot → Bool
-parameter_stands x = parameter_fits (record { dots = x.dots; value = slot x.value })
+-- parameters may be declared; `...` stands before the last alone, with no comma behind it, to which nothing is given
+abbrev pub parameters_stand : Bracket (Element Slot) → Bool
+parameters_stand b = all_within (λ x. stands DECLARED (slot x.value)) b && all_in_front is_plain b && passes (λ x. is_plain x || (slot x.value).is_target) b.last
 
-abbrev pub ParametersAt : ℕ → Tall (Bracket Slot) → Type 0
-ParametersAt = BracketAt parameter_stands (λ (x : Slot). (slot x).height)
+-- parameters, none taller than the room
+pub record ParametersAt (room : ℕ) (x : Tall (Bracket (Element Slot))) : Type 0 where
+  pub fit : parameters_stand x.node ≡ true
+  pub height : x.height ≡ round_height (λ (y : Slot). (slot y).height) x.node
+  pub fits : x.height ≤ room
 
 pub record BlockAt (room : ℕ) (x : Tall (Block Stmt)) : Type 0 where
   pub height : x.height ≡ stmts_height x.node.body
@@ -276,8 +284,8 @@ pub record FunctionAt (room : ℕ) (x : Tall Function) : Type 0 where
   pub height : x.height ≡ (function x.node).height
   pub fits : x.height ≤ room
 
-abbrev pub ReadsParameters : ℕ → Place → Place → Result (Tall (Bracket Slot)) TokenFault → Type 0
-ReadsParameters room = ReadsAs (λ x. parameters_line x.node) (ParametersAt room) (Anywhere (Tall (Bracket Slot)))
+abbrev pub ReadsParameters : ℕ → Place → Place → Result (Tall (Bracket (Element Slot))) TokenFault → Type 0
+ReadsParameters room = ReadsAs (λ x. parameters_line x.node) (ParametersAt room) (Anywhere (Tall (Bracket (Element Slot))))
 
 abbrev pub ReadsBlock : ℕ → Place → Place → Result (Tall (Block Stmt)) TokenFault → Type 0
 ReadsBlock room = ReadsAs (λ x. block_line x.node) (BlockAt room) (Anywhere (Tall (Block Stmt)))
@@ -285,27 +293,12 @@ ReadsBlock room = ReadsAs (λ x. block_line x.node) (BlockAt room) (Anywhere (Ta
 abbrev pub ReadsFunction : ℕ → Place → Place → Result (Tall Function) TokenFault → Type 0
 ReadsFunction room = ReadsAs (λ x. (function x.node).line) (FunctionAt room) (Anywhere (Tall Function))
 
--- what a declared name is given, where it is given anything
-abbrev pub init_line : Option (Init Expr) → Onto
-init_line = maybe (init_row pieces expr_line)
+-- what is declared, and what it is given
+abbrev pub slot_stands : Slot → Bool
+slot_stands x = declaration_fits (slot x)
 
-abbrev pub init_stands : Option (Init Expr) → Bool
-init_stands = passes (λ i. stands ASSIGN (expr i.value))
-
-abbrev pub init_height : Option (Init Expr) → ℕ
-init_height o = maybe (λ (i : Init Expr) h. max (expr i.value).height h) o 0
-
-pub record InitAt (room : ℕ) (x : Tall (Option (Init Expr))) : Type 0 where
-  pub stands : init_stands x.node ≡ true
-  pub height : x.height ≡ init_height x.node
-  pub fits : x.height ≤ room
-
-abbrev pub ReadsInit : ℕ → Place → Place → Result (Tall (Option (Init Expr))) TokenFault → Type 0
-ReadsInit room = ReadsMaybe (λ x. init_line x.node) (InitAt room) (λ x. Stops ASSIGN)
-
--- a declared name and what it is given
 pub record SlotAt (room : ℕ) (x : Tall Slot) : Type 0 where
-  pub stands : stands DECLARED (slot x.node) ≡ true
+  pub stands : slot_stands x.node ≡ true
   pub height : x.height ≡ (slot x.node).height
   pub fits : x.height ≤ room
 
@@ -314,7 +307,7 @@ ReadsSlot room = ReadsAs (λ x. slot_line x.node) (SlotAt room) (λ x. Stops ASS
 
 -- a further one, with its comma
 pub record FurtherSlotAt (room : ℕ) (x : Tall (Further Slot)) : Type 0 where
-  pub stands : stands DECLARED (slot x.node.item) ≡ true
+  pub stands : slot_stands x.node.item ≡ true
   pub height : x.height ≡ (slot x.node.item).height
   pub fits : x.height ≤ room
 
@@ -325,7 +318,7 @@ abbrev pub ReadsFurtherSlot : ℕ → Place → Place → Result (Tall (Further 
 ReadsFurtherSlot room = ReadsAs (λ x. further_slot_line x.node) (FurtherSlotAt room) (λ x. Stops ASSIGN)
 
 pub record SlotsAt (room : ℕ) (x : Tall (List (Further Slot))) : Type 0 where
-  pub each : list_all (λ y. stands DECLARED (slot y.item)) x.node ≡ true
+  pub each : list_all (λ y. slot_stands y.item) x.node ≡ true
   pub height : x.height ≡ tallest_of (λ y. (slot y.item).height) x.node
   pub fits : x.height ≤ room
 
@@ -380,20 +373,3 @@ Closes (x ∷ xs) = (t : Token) × (x ≡ Tok t (is kind.RightBrace))
 
 abbrev pub ReadsStmts : ℕ → Place → Place → Result (Tall (List Stmt)) TokenFault → Type 0
 ReadsStmts room = ReadsMaybe (λ x. stmts x.node) (StmtsAt room) (λ x. Closes)
-
--- THE KNOT
-
--- what a call of a reader leaves: its answer, and the place behind what it read
-abbrev pub Leaves : Type 0 → Type 0
-Leaves X = Result X TokenFault × (MutBor Place × Unit {0})
-
--- the readers that the rules hold read what stands in a node, with less room than the rules have: an expression of a
--- level, and statements
-pub record Knot {E S : Type 0} (expr_reader : Shared E (Global × (MutBor Place × (ℕ × (ℕ × Unit {0})))) (Leaves Value)) (stmts_reader : Shared S (Global × (MutBor Place × (ℕ × Unit {0}))) (Leaves (Tall (List Stmt))))
-    (rules : Grammar E S) : Type 0 where
-  pub expr_callable : (alloc : Global) (old : MutBor Place) (room level : ℕ) → room < rules.room → is_level level ≡ true → expr_reader.pre rules.expr (alloc, (old, (room, (level, tt))))
-  pub expr_reads : (alloc : Global) (old new : MutBor Place) (room level : ℕ) (r : Result Value TokenFault) → room < rules.room → is_level level ≡ true
-      → expr_reader.post rules.expr (alloc, (old, (room, (level, tt)))) (r, (new, tt)) → ReadsExpr level room old.now new.now r
-  pub stmts_callable : (alloc : Global) (old : MutBor Place) (room : ℕ) → room < rules.room → stmts_reader.pre rules.stmts (alloc, (old, (room, tt)))
-  pub stmts_read : (alloc : Global) (old new : MutBor Place) (room : ℕ) (r : Result (Tall (List Stmt)) TokenFault) → room < rules.room → stmts_reader.post rules.stmts (alloc, (old, (room, tt))) (r, (new, tt))
-      → ReadsStmts room old.now new.now r

@@ -1,10 +1,10 @@
 //! Arrays and items in round brackets, where patterns may turn out to stand (ECMA-262, 12.2.5 and 12.2.10).
-ghost use Rattle.std.specs.Prelude.{◌≡◌, ◌<◌, ◌-◌, ℕ};
+ghost use Rattle.std.specs.Prelude.{◌≡◌, ◌<◌, ◌-◌};
 ghost use Rattle.js_tree.specs.declared.token_kind.TokenKind.TheVariants as kinds;
 ghost use Rattle.js_tokens.specs.Ahead.{IsNextKind};
 ghost use Rattle.js_parser.specs.Brackets.{ReadsItem};
 ghost use Rattle.js_parser.specs.Covers.{array_kind, round_kind, ReadsBracketCover, ReadsRound};
-ghost use Rattle.js_parser.specs.Nodes.{Knot};
+ghost use Rattle.js_parser.specs.Knot.{Knot};
 
 use crate::brackets::{NO_ITEM, ReadItem, items_in_brackets};
 use crate::grammar::Grammar;

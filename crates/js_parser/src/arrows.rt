@@ -1,8 +1,9 @@
 //! Arrows, and what is declared (ECMA-262, 13.3 and 14.2).
 ghost use Rattle.std.specs.Prelude.{◌≡◌, ◌≤◌, ◌<◌, ◌-◌, ◌||◌, is_some, not};
 ghost use Rattle.js_tree.specs.Spelling as seen;
-ghost use Rattle.js_parser.specs.Covers.{ArrowGoesOn, ArrowParamsAt, MakesParameters, RoundAt};
-ghost use Rattle.js_parser.specs.Nodes.{Knot, ReadsArrowValue, ReadsParameters, ReadsSlot};
+ghost use Rattle.js_parser.specs.Covers.{ArrowNext, ArrowParamsAt, GoesOnArrow, MakesParameters, RoundAt};
+ghost use Rattle.js_parser.specs.Knot.{Knot};
+ghost use Rattle.js_parser.specs.Nodes.{IsSeen, ReadsParameters, ReadsSlot};
 
 use crate::grammar::Grammar;
 use crate::kinds::are_same;
@@ -28,8 +29,9 @@ impl<
     ) -> Result<Cover, TokenFault>
         requires knot { Knot E.Fn C.Fn S.Fn self.now }
         requires some { 0 < self.now.room }
-        requires params { ArrowParamsAt (self.now.room - 1) params }
-        ensures reads { ArrowGoesOn self.now.given self.now.room params reader.old reader.new result }
+        requires params { ArrowParamsAt (self.now.room - 1) params.entry }
+        requires told { ArrowNext reader.old }
+        ensures reads { GoesOnArrow self.now.given self.now.room params.entry.node reader.old reader.new result }
     {
         let arrow = mark(self.alloc, reader, TokenKind::Arrow)?;
         if are_same(TokenKind::LeftBrace, reader.kind()) {
@@ -86,8 +88,8 @@ impl<
         items: Item<Bracket<Element<Boxed<Expr>>>>,
     ) -> Result<Tall<Bracket<Element<Slot>>>, TokenFault>
         requires some { 0 < self.now.room }
-        requires items { RoundAt (self.now.room - 1) items }
-        ensures made { MakesParameters (self.now.room - 1) refusal items result }
+        requires items { RoundAt (self.now.room - 1) items.entry }
+        ensures made { MakesParameters (self.now.room - 1) refusal.entry items.entry result }
     {
         let Item { node, facts } = items;
         if self.room <= facts.low {

@@ -1,9 +1,10 @@
 //! Assignments and choices (ECMA-262, 12.14 and 12.15).
-ghost use Rattle.std.specs.Prelude.{◌≡◌, ◌≤◌, ◌<◌, IfOk, true};
-ghost use Rattle.js_tree.specs.Spelling.{expr};
-ghost use Rattle.js_tree.specs.Spelling.Nodes.{COND};
-ghost use Rattle.js_parser.specs.Behind.{AfterPrimary, AfterTest, AloneOr, AssignsTo, CallsNoEval, Chooses, GoesOn, ReadsArm};
-ghost use Rattle.js_parser.specs.Nodes.{Knot, ReadsExpr, ValueAt};
+ghost use Rattle.std.specs.Prelude.{◌≡◌, ◌<◌, ◌-◌, nat_le};
+ghost use Rattle.js_tree.specs.Spelling.Nodes.{BINARY};
+ghost use Rattle.js_parser.specs.Behind.{AloneOr, AssignsTo, CallsNoEval, Chooses, GoesOn, ReadsArm};
+ghost use Rattle.js_parser.specs.Covers.{AfterWhole, GoesOnUnconditional, IsAssigned, ReadsAlternative};
+ghost use Rattle.js_parser.specs.Knot.{Knot};
+ghost use Rattle.js_parser.specs.Nodes.{ValueAt};
 
 use crate::grammar::Grammar;
 use crate::kinds::is_assignment;
@@ -31,7 +32,7 @@ impl<
         requires some { 0 < self.now.room }
         requires first { ValueAt 18 self.now.room first }
         requires direct { CallsNoEval first reader.old }
-        ensures reads { GoesOn (AfterPrimary self.now.room) 1 self.now.room first reader.old reader.new result }
+        ensures reads { GoesOnUnconditional (AfterWhole self.now.room) self.now.given self.now.room first reader.old reader.new result }
     {
         let chain = self.chain_behind(reader, first)?;
         let operand = self.postfix_behind(reader, chain)?;
@@ -45,8 +46,7 @@ impl<
         requires knot { Knot E.Fn C.Fn S.Fn self.now }
         requires some { 0 < self.now.room }
         requires first { ValueAt 3 self.now.room first }
-        ensures reads { CoverGoesOn (AloneOr AssignsTo) self.now.given self.now.room first reader.old reader.new result }
-        ensures other { IfOk result (λ x. (expr x.value.node).rank ≡ COND → ⊥) }
+        ensures reads { GoesOnUnconditional (AloneOr AssignsTo) self.now.given self.now.room first reader.old reader.new result }
     {
         if !first.is_target {
             return Ok(sound(first));
@@ -65,7 +65,8 @@ impl<
     ) -> Result<Cover, TokenFault>
         requires knot { Knot E.Fn C.Fn S.Fn self.now }
         requires some { 0 < self.now.room }
-        ensures reads { CoverGoesOn AssignsTo self.now.given self.now.room first reader.old reader.new result }
+        requires told { IsAssigned self.now.given self.now.room first reader.old }
+        ensures reads { GoesOnUnconditional AssignsTo self.now.given self.now.room first reader.old reader.new result }
     {
         let refusal = reader.refusal();
         let tall = first.low;

@@ -1,6 +1,7 @@
 //! Items by commas in brackets.
 ghost use Rattle.std.specs.Prelude.{◌≡◌, ℕ, ◌&&◌, is_some, not, OnOk};
 ghost use Rattle.js_tree.specs.TokenKinds.{is};
+ghost use Rattle.js_parser.specs.Brackets as brackets;
 ghost use Rattle.js_parser.specs.Brackets.{BeginsElse, Closes, ItemKind, Opens, Puts, ReadsEnclosed, ReadsInside, ReadsItem};
 
 use crate::kinds::are_same;
@@ -51,7 +52,7 @@ pub const NO_ITEM: Facts = Facts {
 
 // What is known of items and one more.
 fn joint_facts(all: Facts, more: Facts) -> Facts
-    ensures { result ≡ joint_facts all more }
+    ensures { result ≡ brackets.joint_facts all more }
 {
     Facts {
         height: higher(all.height, more.height),

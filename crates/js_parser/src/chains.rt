@@ -7,7 +7,8 @@ ghost use Rattle.js_tree.specs.TokenKinds.{is};
 ghost use Rattle.js_tree.specs.declared.token_kind.TokenKind.TheVariants as kinds;
 ghost use Rattle.js_tokens.specs.Ahead.{IsNextKind};
 ghost use Rattle.js_parser.specs.Behind.{AloneOr, CallsNoEval, GoesOn, TakesTails};
-ghost use Rattle.js_parser.specs.Nodes.{Knot, ReadsExpr, ReadsMaybeArguments, ValueAt};
+ghost use Rattle.js_parser.specs.Knot.{Knot};
+ghost use Rattle.js_parser.specs.Nodes.{ReadsExpr, ReadsMaybeArguments, ValueAt};
 
 use crate::grammar::Grammar;
 use crate::kinds::are_same;

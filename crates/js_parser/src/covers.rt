@@ -1,10 +1,13 @@
 //! What stands where an expression or a pattern may turn out to stand (ECMA-262, 12.15 and 14.2).
-ghost use Rattle.std.specs.Prelude.{◌≡◌, ◌≤◌, ◌<◌, ◌+◌, ◌-◌};
+ghost use Rattle.std.specs.Prelude.{◌≡◌, ◌<◌, ◌+◌, ◌-◌, ◌&&◌, nat_le};
+ghost use Rattle.js_tree.specs.Spelling.Nodes.{BINARY};
 ghost use Rattle.js_tree.specs.declared.token_kind.TokenKind.TheVariants as kinds;
 ghost use Rattle.js_tokens.specs.Ahead.{IsNextKind};
-ghost use Rattle.js_tokens.specs.Pieces.{Refuses};
-ghost use Rattle.js_parser.specs.Covers.{AfterBracket, BracketAt, CoverGoesOn, MakesExpr, MakesParen, ReadsCover, RoundAt};
-ghost use Rattle.js_parser.specs.Nodes.{Knot, ReadsExpr};
+ghost use Rattle.js_parser.specs.Behind.{AloneOr, Chooses};
+ghost use Rattle.js_parser.specs.Covers.{AfterBracket, BracketAt, GoesOnCover, GoesOnUnconditional, MakesParen, ReadsCover, ReadsUnconditional, RoundAt, UnconditionalAt, expr_or};
+ghost use Rattle.js_parser.specs.Covers as covers;
+ghost use Rattle.js_parser.specs.Knot.{Knot};
+ghost use Rattle.js_parser.specs.Nodes.{ReadsExpr};
 
 use crate::chains::calls_eval;
 use crate::grammar::Grammar;
@@ -66,8 +69,8 @@ impl<
     ) -> Result<Cover, TokenFault>
         requires knot { Knot E.Fn C.Fn S.Fn self.now }
         requires some { 0 < self.now.room }
-        requires first { UnconditionalAt self.now.given self.now.room first }
-        ensures reads { CoverGoesOn (AloneOr Chooses) self.now.given self.now.room first reader.old reader.new result }
+        requires first { UnconditionalAt self.now.given self.now.room first.entry }
+        ensures reads { GoesOnCover (AloneOr Chooses) self.now.given self.now.room first.entry.value reader.old reader.new result }
     {
         if next_strength(reader) != 3 {
             return Ok(first);
@@ -80,7 +83,9 @@ impl<
     }
 
     // Whether the cover may be the test of a choice.
-    fn may_test(&self, cover: &Cover) -> bool {
+    fn may_test(&self, cover: &Cover) -> bool
+        ensures { result ≡ (nat_le BINARY cover.now.value.rank && covers.may_stand self.now.room cover.now) }
+    {
         3 <= cover.value.rank && self.may_stand(cover)
     }
 
@@ -98,7 +103,7 @@ impl<
 
     /// The cover as an expression, where it is as one must be and no taller than the room; else the refusal.
     pub fn expression_of(&self, refusal: TokenFault, cover: Cover) -> Result<Value, TokenFault>
-        ensures made { MakesExpr self.now.room refusal cover result }
+        ensures made { result ≡ expr_or self.now.room refusal.entry cover.entry }
     {
         if !self.may_stand(&cover) {
             return Err(refusal);
@@ -107,7 +112,9 @@ impl<
     }
 
     // Whether the cover is as an expression must be, and no taller than the room.
-    fn may_stand(&self, cover: &Cover) -> bool {
+    fn may_stand(&self, cover: &Cover) -> bool
+        ensures { result ≡ covers.may_stand self.now.room cover.now }
+    {
         cover.is_sound && cover.value.height <= self.room
     }
 
@@ -120,8 +127,8 @@ impl<
     ) -> Result<Cover, TokenFault>
         requires knot { Knot E.Fn C.Fn S.Fn self.now }
         requires some { 0 < self.now.room }
-        requires first { BracketAt self.now.room first }
-        ensures reads { CoverGoesOn AfterBracket self.now.given self.now.room first reader.old reader.new result }
+        requires first { BracketAt self.now.given self.now.room first.entry }
+        ensures reads { GoesOnUnconditional (AfterBracket self.now.room) self.now.given self.now.room first.entry.value reader.old reader.new result }
     {
         if are_same(TokenKind::Assign, reader.kind()) {
             return self.assigned_to(reader, first.value);
@@ -162,8 +169,10 @@ impl<
         refusal: TokenFault,
         items: Item<Bracket<Element<Boxed<Expr>>>>,
     ) -> Result<Value, TokenFault>
-        requires items { RoundAt (self.now.room - 1) items }
-        ensures made { MakesParen self.now.room refusal items result }
+        requires knot { Knot E.Fn C.Fn S.Fn self.now }
+        requires some { 0 < self.now.room }
+        requires items { RoundAt (self.now.room - 1) items.entry }
+        ensures made { MakesParen self.now.room refusal.entry items.entry result }
     {
         let Item { node, facts } = items;
         if !facts.is_sound {

@@ -2,7 +2,8 @@
 ghost use Rattle.std.specs.Prelude.{◌≡◌, ◌≤◌, ◌<◌, ◌+◌, ◌-◌, true};
 ghost use Rattle.js_tree.specs.declared.tree.Expr.{out-Expr};
 ghost use Rattle.js_parser.specs.Behind.{AloneOr, GoesOn, Joins, JoinsFrom};
-ghost use Rattle.js_parser.specs.Nodes.{Knot, IsListRank, is_level, list_layer, ReadsExpr, ReadsOperand, ReadsOperands, ValueAt};
+ghost use Rattle.js_parser.specs.Knot.{Knot};
+ghost use Rattle.js_parser.specs.Nodes.{IsListRank, is_level, list_layer, ReadsExpr, ReadsOperand, ReadsOperands, ValueAt};
 
 use crate::grammar::Grammar;
 use crate::marks::next_strength;

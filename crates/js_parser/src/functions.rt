@@ -1,6 +1,7 @@
 //! Functions (ECMA-262, clause 14).
 ghost use Rattle.std.specs.Prelude.{◌≡◌, ◌≤◌, ◌<◌, ◌-◌};
-ghost use Rattle.js_parser.specs.Nodes.{Knot, ReadsFunction, ReadsBlock};
+ghost use Rattle.js_parser.specs.Knot.{Knot};
+ghost use Rattle.js_parser.specs.Nodes.{ReadsFunction, ReadsBlock};
 
 use crate::grammar::Grammar;
 use crate::marks::{mark, maybe_mark};

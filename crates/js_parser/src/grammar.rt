@@ -1,7 +1,8 @@
 //! The rules of the grammar take the readers of what stands in a node as parameters, so that each is proved by itself.
 ghost use Rattle.std.specs.Prelude.{◌≡◌, ◌<◌, ◌-◌, true};
 ghost use Rattle.js_parser.specs.Covers.{ReadsCover};
-ghost use Rattle.js_parser.specs.Nodes.{Knot, is_level, ReadsExpr, ReadsStmts};
+ghost use Rattle.js_parser.specs.Knot.{Knot};
+ghost use Rattle.js_parser.specs.Nodes.{is_level, ReadsExpr, ReadsStmts};
 
 use crate::tall::{Cover, Tall, Value};
 use js_tokens::{TokenFault, TokenReader};

@@ -1,7 +1,8 @@
 //! The knot of the grammar: what stands in a node is read by these functions, with less room.
 ghost use Rattle.std.specs.Prelude.{◌≡◌, ◌≤◌, true};
-ghost use Rattle.js_parser.specs.Nodes.{DEPTH, is_level, ReadsExpr, ReadsStmts};
 ghost use Rattle.js_parser.specs.Covers.{ReadsCover};
+ghost use Rattle.js_parser.specs.Knot.{DEPTH};
+ghost use Rattle.js_parser.specs.Nodes.{is_level, ReadsExpr, ReadsStmts};
 
 use crate::grammar::Grammar;
 use crate::tall::{Cover, Tall, Value};

@@ -1,11 +1,12 @@
 //! Objects, where patterns may turn out to stand (ECMA-262, 12.2.6).
-ghost use Rattle.std.specs.Prelude.{◌≡◌, ◌<◌, ◌-◌, ℕ};
+ghost use Rattle.std.specs.Prelude.{◌≡◌, ◌<◌, ◌-◌};
 ghost use Rattle.js_tree.specs.declared.token_kind.TokenKind.TheVariants as kinds;
 ghost use Rattle.js_parser.specs.declared.kinds.PropertyStart.TheVariants as sorts;
 ghost use Rattle.js_tokens.specs.Ahead.{IsNextKind};
 ghost use Rattle.js_parser.specs.Brackets.{ReadsItem};
-ghost use Rattle.js_parser.specs.Covers.{property_kind, LeadsToProperty, ReadsBracketCover, ReadsPair, ReadsGivenName};
-ghost use Rattle.js_parser.specs.Nodes.{Knot};
+ghost use Rattle.js_parser.specs.Covers.{KeyAt, property_kind, ReadsBracketCover, ReadsGivenName, ReadsPair};
+ghost use Rattle.js_parser.specs.Following.{LeadsToProperty};
+ghost use Rattle.js_parser.specs.Knot.{Knot};
 
 use crate::brackets::{ReadItem, items_in_brackets};
 use crate::grammar::Grammar;
@@ -170,7 +171,8 @@ impl<
     ) -> Result<Item<Property>, TokenFault>
         requires knot { Knot E.Fn C.Fn S.Fn self.now }
         requires some { 0 < self.now.room }
-        ensures reads { ReadsGivenName (self.now.room - 1) name reader.old reader.new result }
+        requires told { IsNextKind reader.old kinds.Assign }
+        ensures reads { ReadsGivenName (self.now.room - 1) name.entry reader.old reader.new result }
     {
         if self.room == 1 {
             return Err(reader.refusal());
@@ -204,7 +206,8 @@ impl<
     ) -> Result<Item<Property>, TokenFault>
         requires knot { Knot E.Fn C.Fn S.Fn self.now }
         requires some { 0 < self.now.room }
-        ensures reads { ReadsPair (self.now.room - 1) key tall reader.old reader.new result }
+        requires key { KeyAt (self.now.room - 1) key.entry tall }
+        ensures reads { ReadsPair (self.now.room - 1) key.entry reader.old reader.new result }
     {
         let colon = mark(self.alloc, reader, TokenKind::Colon)?;
         let item = self.inner_item(reader)?;

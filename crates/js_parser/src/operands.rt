@@ -4,7 +4,8 @@ ghost use Rattle.js_tree.specs.Operators as operators;
 ghost use Rattle.js_tree.specs.Spelling.Nodes.{UNARY, UPDATE};
 ghost use Rattle.js_parser.specs.Following.{Leads};
 ghost use Rattle.js_parser.specs.Behind.{AloneOr, GoesOn, Raises, UpdatesTarget};
-ghost use Rattle.js_parser.specs.Nodes.{Knot, ReadsExpr, ValueAt};
+ghost use Rattle.js_parser.specs.Knot.{Knot};
+ghost use Rattle.js_parser.specs.Nodes.{ReadsExpr, ValueAt};
 
 use crate::grammar::Grammar;
 use crate::kinds::{is_unary, is_update};

@@ -4,7 +4,8 @@ ghost use Rattle.js_tree.specs.TokenKinds.{is};
 ghost use Rattle.js_tree.specs.declared.token_kind.TokenKind.TheVariants as kinds;
 ghost use Rattle.js_parser.specs.declared.kinds.Primary.TheVariants as sorts;
 ghost use Rattle.js_parser.specs.Following.{Leads, LeadsTo};
-ghost use Rattle.js_parser.specs.Nodes.{Knot, ReadsExpr};
+ghost use Rattle.js_parser.specs.Knot.{Knot};
+ghost use Rattle.js_parser.specs.Nodes.{ReadsExpr};
 
 use crate::grammar::Grammar;
 use crate::kinds::{Primary, primary_of};

@@ -3,7 +3,8 @@ ghost use Rattle.std.specs.Prelude.{◌≡◌, ◌≤◌, ◌<◌, ◌-◌, is_s
 ghost use Rattle.js_tree.specs.Spelling as seen;
 ghost use Rattle.js_parser.specs.declared.kinds.Statement.TheVariants as sorts;
 ghost use Rattle.js_parser.specs.Following.{LeadsToStmt};
-ghost use Rattle.js_parser.specs.Nodes.{Knot, ReadsStmt, ReadsStmts, ReadsSlot, ReadsFurtherSlot, ReadsSlots, ReadsInit, ReadsGiven};
+ghost use Rattle.js_parser.specs.Knot.{Knot};
+ghost use Rattle.js_parser.specs.Nodes.{ReadsStmt, ReadsStmts, ReadsSlot, ReadsFurtherSlot, ReadsSlots, ReadsInit, ReadsGiven};
 
 use crate::grammar::Grammar;
 use crate::kinds::{Statement, are_same, closes, statement_of};

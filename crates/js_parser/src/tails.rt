@@ -14,7 +14,8 @@ ghost use Rattle.js_tokens.specs.Ahead.{IsNextKind};
 ghost use Rattle.js_tokens.specs.Pieces.{OnlyRead, Any, Anywhere, Moves};
 ghost use Rattle.js_parser.specs.Brackets.{argument_kind, ReadsItem};
 ghost use Rattle.js_parser.specs.Following.{is_part};
-ghost use Rattle.js_parser.specs.Nodes.{Knot, names_eval, CallsHere, ReadsSubstitutions, ReadsArguments, ReadsTemplate, ReadsTail, ReadsTails};
+ghost use Rattle.js_parser.specs.Knot.{Knot};
+ghost use Rattle.js_parser.specs.Nodes.{names_eval, CallsHere, ReadsSubstitutions, ReadsArguments, ReadsTemplate, ReadsTail, ReadsTails};
 
 use crate::brackets::{ReadItem, items_in_brackets};
 use crate::grammar::Grammar;
