@@ -92,9 +92,9 @@ path 0 0:3
 # A longer walk over lesser edges is no path.
 graph 4
     0:0 1 0:1
-    0:0 9 0:2
     0:1 2 0:2
     0:2 3 0:3
+    0:0 9 0:2
 path 0 0:3
     0:0 9 0:2
     0:2 3 0:3
