@@ -147,7 +147,7 @@ fn alarm_text(alloc: Global, found: &Found) -> Result<String, AllocError> {
     )
 }
 
-fn alarms_of(alloc: Global, advisories: &[Advisory]) -> Result<List<Found>, Fail> {
+fn alarms_of(alloc: Global, advisories: &[Advisory]) -> Result<Vec<Found>, Fail> {
     let Ok(lock) = read_lock(alloc, LOCK.as_bytes()) else {
         return Err("lockfile".into());
     };
