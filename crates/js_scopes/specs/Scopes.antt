@@ -1,20 +1,31 @@
 -- The scopes and names of a tree, and what its functions, call sites and names are.
 use Rattle.std.specs.Prelude.{ℕ, ◌==◌, Bool, true, false, List, [], ◌∷◌, map, Option, Some, None, is_some, if◌then◌else◌, codes}
 use Rattle.std.specs.List.{flat_map}
+use Rattle.std.specs.Str.{bytes_eq}
 use Rattle.std.specs.Ordering.{nat_cmp, on, then_cmp}
 use Rattle.std.specs.declared.cmp.Ordering.{Ordering}
+use Rattle.js_tree.specs.declared.lists.ForStart.{ForStart}
+use Rattle.js_tree.specs.declared.lists.ForStart.TheVariants as start
+use Rattle.js_tree.specs.declared.lists.Left.{Left}
+use Rattle.js_tree.specs.declared.lists.Left.TheVariants as left
 use Rattle.js_tree.specs.declared.token.Token.{Token}
-use Rattle.js_tree.specs.declared.tree.Expr.{out-Expr}
+use Rattle.js_tree.specs.declared.tree.Expr.{Expr, out-Expr}
 use Rattle.js_tree.specs.declared.tree.Expr.TheOpen.{Expr-F, Pattern-F, Stmt-F}
 use Rattle.js_tree.specs.declared.tree.Function.{Function, out-Function}
-use Rattle.js_tree.specs.declared.tree.Pattern.{out-Pattern}
-use Rattle.js_tree.specs.declared.tree.Stmt.{out-Stmt}
+use Rattle.js_tree.specs.declared.tree.Pattern.{Pattern, out-Pattern}
+use Rattle.js_tree.specs.declared.tree.Slot.{Slot}
+use Rattle.js_tree.specs.declared.tree.Stmt.{Stmt, out-Stmt}
 use Rattle.js_tree.specs.declared.tree.Tree.{Tree}
 use Rattle.js_tree.specs.Folds.{ExprLayer, PatternLayer, StmtLayer}
-use Rattle.js_tree.specs.Parts.{Node, AnExpr, AFunction, APattern, AStmt, ABody, gathered, parts}
+use Rattle.js_tree.specs.Parts.{Node, AnExpr, AFunction, APattern, AStmt, ABody, ACases, AHandler, gathered, parts}
 use Rattle.js_scopes.specs.declared.binding.Binding.{Binding}
 use Rattle.js_scopes.specs.declared.binding.Binding.TheVariants as binding
 use Rattle.js_scopes.specs.declared.binding.BoundName.{BoundName}
+use Rattle.js_scopes.specs.declared.declaring.Declaring.{Declaring}
+use Rattle.js_scopes.specs.declared.declaring.NameKind.{NameKind}
+use Rattle.js_scopes.specs.declared.declaring.NameKind.TheVariants as names
+use Rattle.js_scopes.specs.declared.declaring.ScopeKind.{ScopeKind}
+use Rattle.js_scopes.specs.declared.declaring.ScopeKind.TheVariants as scope
 use Rattle.js_scopes.specs.declared.function.FunctionInfo.{FunctionInfo}
 use Rattle.js_scopes.specs.declared.site.SiteInfo.{SiteInfo}
 use Rattle.jam_base.specs.Ascending.{ascending}
@@ -30,42 +41,130 @@ abbrev pub declared_by_var : Bool → Token → Scope
 declared_by_var true t = if is_some (wrapper_name t.text) then [] else t ∷ []
 declared_by_var false t = t ∷ []
 
--- Fun: its name is declared in the scope of the function around it. A pattern that is declared: its name
+-- what a name declares that is declared so, where the names of such a scope are looked for
+abbrev pub variable_in : ScopeKind → Token → Scope
+variable_in scope.Module t = declared_by_var true t
+variable_in scope.InnerModule t = declared_by_var true t
+variable_in scope.Function t = declared_by_var false t
+variable_in _ t = []
+
+abbrev pub lexical_in : ScopeKind → Token → Scope
+lexical_in scope.Module t = t ∷ []
+lexical_in scope.Block t = t ∷ []
+lexical_in _ t = []
+
+abbrev pub name_in_head : ScopeKind → Token → Scope
+name_in_head scope.Head t = t ∷ []
+name_in_head _ t = []
+
+abbrev pub declared_as : NameKind → ScopeKind → Token → Scope
+declared_as names.Free s t = []
+declared_as names.Variable s t = variable_in s t
+declared_as names.Lexical s t = lexical_in s t
+declared_as names.Head s t = name_in_head s t
+
+-- the name of a declared function stands in the scope of the function around it
+abbrev pub function_in : ScopeKind → Scope → Scope
+function_in scope.Block own = []
+function_in scope.Head own = []
+function_in _ own = own
+
+-- Fun: its name. A pattern that is declared: its name
 abbrev pub declared_by_stmt : StmtLayer → Scope
 declared_by_stmt (Stmt-F.«Stmt::Fun» function) = own_name function
 declared_by_stmt _ = []
 
-abbrev pub declared_by_pattern : PatternLayer → Bool → Scope
-declared_by_pattern (Pattern-F.«Pattern::Name» t) m = declared_by_var m t
-declared_by_pattern _ m = []
+abbrev pub declared_by_pattern : PatternLayer → Declaring → Scope
+declared_by_pattern (Pattern-F.«Pattern::Name» t) d = declared_as d.names d.scope t
+declared_by_pattern _ d = []
 
-abbrev pub own_declared : Node → Bool → Scope
-own_declared (AStmt x) m = declared_by_stmt (out-Stmt x)
-own_declared (APattern x) m = declared_by_pattern (out-Pattern x) m
-own_declared _ m = []
+abbrev pub own_declared : Node → Declaring → Scope
+own_declared (AStmt x) d = function_in d.scope (declared_by_stmt (out-Stmt x))
+own_declared (APattern x) d = declared_by_pattern (out-Pattern x) d
+own_declared _ d = []
 
--- expressions and functions declare nothing in the scope around them
-abbrev pub still_declares : Node → Bool → Option Bool
-still_declares (AnExpr x) m = None
-still_declares (AFunction x) m = None
-still_declares _ m = Some m
+-- what this word declares, which is `var` or another (ECMA-262, 13.3)
+abbrev pub kind_of_word : NameKind → Token → NameKind
+kind_of_word other t = if bytes_eq t.text (codes "var") then names.Variable else other
 
--- what a node declares in the scope of the function around it, which is the module's body or not
-abbrev pub declared_in : Node → Bool → Scope
+abbrev pub kind_in_start : Option (ForStart Expr Slot) → NameKind
+kind_in_start (Some (start.Vars word first others)) = kind_of_word names.Head word
+kind_in_start _ = names.Free
+
+abbrev pub kind_in_left : Left Pattern → NameKind
+kind_in_left (left.Vars word target) = kind_of_word names.Head word
+kind_in_left (left.Target target) = names.Free
+
+-- how the patterns that are parts of a statement declare their names: what the head of a loop declares by `let` or `const` stands in a scope of the loop
+-- (ECMA-262, 13.7.4 and 13.7.5)
+abbrev pub kind_in_stmt : StmtLayer → NameKind
+kind_in_stmt (Stmt-F.Vars word first others semi) = kind_of_word names.Lexical word
+kind_in_stmt (Stmt-F.For word begin start first test second step end body) = kind_in_start start
+kind_in_stmt (Stmt-F.ForIn word begin target mark value end body) = kind_in_left target
+kind_in_stmt (Stmt-F.ForOf word begin target mark value end body) = kind_in_left target
+kind_in_stmt _ = names.Free
+
+-- what is looked for inside a statement: no statement belongs to the head that it stands behind
+abbrev pub within_stmt : ScopeKind → NameKind → Option Declaring
+within_stmt scope.Head k = None
+within_stmt s k = Some (record { scope = s; names = k })
+
+-- what is looked for in what has a scope of its own
+abbrev pub within_own : NameKind → ScopeKind → Option Declaring
+within_own k scope.Module = Some (record { scope = scope.InnerModule; names = k })
+within_own k scope.InnerModule = Some (record { scope = scope.InnerModule; names = k })
+within_own k scope.Function = Some (record { scope = scope.Function; names = k })
+within_own k scope.Block = None
+within_own k scope.Head = None
+
+-- expressions and functions declare nothing in the scopes around them. Statements in braces, the cases of a `switch` and a handler have a scope of their own
+abbrev pub still_declares : Node → Declaring → Option Declaring
+still_declares (AnExpr x) d = None
+still_declares (AFunction x) d = None
+still_declares (AStmt x) d = within_stmt d.scope (kind_in_stmt (out-Stmt x))
+still_declares (ABody xs) d = within_own names.Free d.scope
+still_declares (ACases xs) d = within_own names.Free d.scope
+still_declares (AHandler x) d = within_own names.Head d.scope
+still_declares _ d = Some d
+
+-- what a node declares in a scope around it
+abbrev pub declared_in : Node → Declaring → Scope
 declared_in = gathered own_declared still_declares
 
--- what the parts of a node declare: of a function its parameters first, and then what its body declares
-abbrev pub scope_of : Bool → Node → Scope
-scope_of m n = flat_map (λ p. declared_in p m) (parts n)
+-- what the parts of a node declare there: of a function its parameters first, and then what its body declares
+abbrev pub scope_of : Declaring → Node → Scope
+scope_of d n = flat_map (λ p. declared_in p d) (parts n)
 
--- the scope that stands around the parts of a node: that of the own name of a function as a value (ECMA-262, 14.1.22), and that of a function
+-- what is looked for directly in the module's body, in a function, in a block and in a head
+abbrev pub of_module : Declaring
+of_module = record { scope = scope.Module; names = names.Free }
+
+abbrev pub of_function : Declaring
+of_function = record { scope = scope.Function; names = names.Variable }
+
+abbrev pub of_block : Declaring
+of_block = record { scope = scope.Block; names = names.Free }
+
+abbrev pub of_head : Declaring
+of_head = record { scope = scope.Head; names = names.Head }
+
+-- the scope that stands around the parts of a node: that of the own name of a function as a value (ECMA-262, 14.1.22), of a function, of a block and of
+-- the cases of a `switch` (ECMA-262, 13.2 and 13.12), of a handler (ECMA-262, 13.15), and of a loop whose head declares in it
 abbrev pub scope_in_expr : ExprLayer → Option Scope
 scope_in_expr (Expr-F.«Expr::Fun» function) = Some (own_name function)
 scope_in_expr _ = None
 
+abbrev pub scope_of_loop : NameKind → Stmt → Option Scope
+scope_of_loop names.Head x = Some (scope_of of_head (AStmt x))
+scope_of_loop _ x = None
+
 abbrev pub scope_in : Node → Option Scope
 scope_in (AnExpr x) = scope_in_expr (out-Expr x)
-scope_in (AFunction x) = Some (scope_of false (AFunction x))
+scope_in (AFunction x) = Some (scope_of of_function (AFunction x))
+scope_in (AStmt x) = scope_of_loop (kind_in_stmt (out-Stmt x)) x
+scope_in (ABody xs) = Some (scope_of of_block (ABody xs))
+scope_in (ACases xs) = Some (scope_of of_block (ACases xs))
+scope_in (AHandler x) = Some (scope_of of_head (AHandler x))
 scope_in _ = None
 
 -- the scopes in a node
@@ -119,9 +218,13 @@ names_in n = gathered (own_names n) (λ node around. Some (around_in n node arou
 
 -- TREES
 
--- what the module's body declares
+-- what the module's body declares: it is no block, so all that stands directly in it is in one scope
 abbrev pub module_scope : Tree → Scope
-module_scope tree = scope_of true (ABody tree.body)
+module_scope tree = scope_of of_module (ABody tree.body)
+
+-- the scopes in a tree but the module's
+abbrev pub inner_scopes : Tree → List Scope
+inner_scopes tree = flat_map scopes_in (parts (ABody tree.body))
 
 -- functions go by their start
 abbrev pub function_order : FunctionInfo → FunctionInfo → Ordering
@@ -139,7 +242,7 @@ inner_functions tree = ascending function_order (functions_in (ABody tree.body) 
 abbrev pub numbering_of : Tree → Numbering
 numbering_of tree = record {
   functions = inner_functions tree;
-  locals = flat_map firsts (module_scope tree ∷ scopes_in (ABody tree.body));
+  locals = flat_map firsts (module_scope tree ∷ inner_scopes tree);
 }
 
 -- what stands around the statements of the module's body
@@ -152,7 +255,7 @@ functions_of tree = record { start = 0; params = 0; name = codes "<module>" } �
 
 -- the names of a tree, in the order of the text
 abbrev pub names_of : Tree → List BoundName
-names_of tree = names_in (numbering_of tree) (ABody tree.body) (around_module tree)
+names_of tree = flat_map (λ p. names_in (numbering_of tree) p (around_module tree)) (parts (ABody tree.body))
 
 -- what the name at the offset means among the names
 abbrev pub meaning : List BoundName → ℕ → Binding

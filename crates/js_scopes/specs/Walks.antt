@@ -4,7 +4,7 @@ use Rattle.std.specs.Borrow.{Bor}
 use Rattle.std.specs.List.{flat_map}
 use Rattle.js_tree.specs.declared.token.Token.{Token}
 use Rattle.js_tree.specs.declared.tree.Tree.{Tree}
-use Rattle.js_tree.specs.Parts.{Node, ABody, gathered}
+use Rattle.js_tree.specs.Parts.{Node, ABody, gathered, parts}
 use Rattle.js_scopes.specs.Names.{Scope}
 use Rattle.js_scopes.specs.Indexed.{scope_starts}
 use Rattle.js_scopes.specs.Scopes.{own_scopes}
@@ -22,4 +22,4 @@ first_starts n = gathered own_starts (λ n u. Some u) n tt
 
 -- the same of a tree whose body has this scope
 abbrev pub local_starts : Scope → Tree → List ℕ
-local_starts scope tree = scope_starts scope ++ first_starts (ABody tree.body)
+local_starts scope tree = scope_starts scope ++ flat_map first_starts (parts (ABody tree.body))

@@ -1,13 +1,14 @@
 //! Where the names of a module are first declared.
-ghost use Rattle.std.specs.Prelude.{◌≡◌, ◌++◌, IfOk, OnOk};
+ghost use Rattle.std.specs.Prelude.{◌≡◌, ◌++◌, All, IfOk, OnOk};
+ghost use Rattle.std.specs.List.{flat_map};
 ghost use Rattle.js_tree.specs.Parts.{ABody, node_of};
 ghost use Rattle.js_tree.specs.Tokens.{IsInText};
-ghost use Rattle.js_scopes.specs.Walks.{local_starts, own_starts};
+ghost use Rattle.js_scopes.specs.Walks.{first_starts, local_starts, own_starts};
 
 use crate::declaration::Scope;
 use crate::scope::scope_in;
 use jam_base::OutOfMemory;
-use js_tree::{Gather, Node, Tree, walk_tree};
+use js_tree::{Gather, Node, Tree, push_parts, walk_tree};
 use std::alloc::Global;
 
 // The offsets of the first tokens of all declared names, scope by scope.
@@ -21,9 +22,21 @@ pub(crate) fn first_tokens(
 {
     let mut starts = Vec::new(alloc);
     scope.push_firsts(&mut starts)?;
-    let body = Node::Body(tree.body.as_slice());
-    walk_tree(alloc, &FirstStarts, body, (), &mut starts)?;
+    let mut parts = Vec::new(alloc);
+    push_parts(Node::Body(tree.body.as_slice()), &mut parts)?;
+    push_inner(alloc, parts.as_slice(), &mut starts)?;
     Ok(starts)
+}
+
+// Adds those of the names that the scopes in these nodes declare.
+fn push_inner(alloc: Global, nodes: &[Node<'_>], out: &mut Vec<u32>) -> Result<(), OutOfMemory>
+    requires { All (λ x. IsInText (node_of x)) nodes.now }
+    ensures { OnOk result (out.new.items ≡ out.old.items ++ flat_map (λ x. first_starts (node_of x)) nodes.now) }
+{
+    for node in nodes {
+        walk_tree(alloc, &FirstStarts, *node, (), out)?;
+    }
+    Ok(())
 }
 
 // The offsets of the first tokens of all names that the scopes in a node declare.

@@ -86,7 +86,7 @@ fn push_named(
 
 // Adds the names in a node.
 #[cycle(names)]
-pub(crate) fn push_node<'t>(
+fn push_node<'t>(
     alloc: Global,
     numbers: Numbers<'_>,
     around: Surroundings<'_, 't>,
@@ -117,7 +117,7 @@ pub(crate) fn push_node<'t>(
 }
 
 #[cycle(names)]
-fn push_nodes<'t>(
+pub(crate) fn push_nodes<'t>(
     alloc: Global,
     numbers: Numbers<'_>,
     around: Surroundings<'_, 't>,

@@ -6,7 +6,7 @@ ghost use Rattle.js_tree.specs.declared.tree.Expr.{out-Expr};
 ghost use Rattle.js_tree.specs.declared.tree.Function.{out-Function};
 ghost use Rattle.js_tree.specs.declared.tree.Pattern.{out-Pattern};
 ghost use Rattle.js_tree.specs.declared.tree.Stmt.{out-Stmt};
-ghost use Rattle.js_tree.specs.Parts.{AFunction, node_of};
+ghost use Rattle.js_tree.specs.Parts.{AStmt, node_of};
 ghost use Rattle.js_tree.specs.Tokens.{IsInText};
 ghost use Rattle.js_scopes.specs.Brackets.{listed};
 ghost use Rattle.js_scopes.specs.Functions as functions;
@@ -16,58 +16,61 @@ ghost use Rattle.js_scopes.specs.Walks.{scopes_of};
 
 use crate::binding::{Binding, WrapperName};
 use crate::declaration::Scope;
+use crate::declaring::{
+    Declaring, NameKind, ScopeKind, declaring_block, declaring_function, declaring_head,
+    kind_in_stmt, within_own, within_stmt,
+};
 use jam_base::OutOfMemory;
 use js_tree::{Expr, Function, Gather, Node, Pattern, Stmt, Token, push_parts, walk_tree};
 use std::alloc::Global;
 
-// The scope around the parts of a node, which is the module's body or not.
+// The scope around the parts of a node.
 pub(crate) fn scope_of<'t>(
     alloc: Global,
     node: Node<'t>,
-    in_module: bool,
+    declaring: Declaring,
 ) -> Result<Scope<'t>, OutOfMemory>
     requires { IsInText (node_of node) }
-    ensures { IfOk result (λ scope. scope ≡ seen.scope_of in_module (node_of node.entry)) }
+    ensures { IfOk result (λ scope. scope ≡ seen.scope_of declaring (node_of node.entry)) }
 {
     let mut parts = Vec::new(alloc);
     push_parts(node, &mut parts)?;
-    Scope::of(alloc, declared_in(alloc, parts.as_slice(), in_module)?)
+    Scope::of(alloc, declared_in(alloc, parts.as_slice(), declaring)?)
 }
 
 // What these nodes declare there.
 fn declared_in<'t>(
     alloc: Global,
     nodes: &[Node<'t>],
-    in_module: bool,
+    declaring: Declaring,
 ) -> Result<Vec<&'t Token>, OutOfMemory>
     requires { All (λ x. IsInText (node_of x)) nodes.now }
-    ensures { IfOk result (λ tokens. map (λ t. t.now) tokens.items ≡ flat_map (λ x. seen.declared_in (node_of x) in_module) nodes.now) }
+    ensures { IfOk result (λ tokens. map (λ t. t.now) tokens.items ≡ flat_map (λ x. seen.declared_in (node_of x) declaring) nodes.now) }
 {
     let mut tokens = Vec::new(alloc);
     for node in nodes {
-        walk_tree(alloc, &Declarations, *node, in_module, &mut tokens)?;
+        walk_tree(alloc, &Declarations, *node, declaring, &mut tokens)?;
     }
     Ok(tokens)
 }
 
-// The names that are declared in the scope of the function around a node, which is the module's body or
-// not.
+// The names that nodes declare in a scope around them.
 struct Declarations;
 
 impl<'t> Gather<'t> for Declarations {
-    ghost use Rattle.std.specs.Prelude.{Bool};
     ghost use Rattle.js_tree.specs.declared.token.Token.{Token as GhostToken};
+    ghost use Rattle.js_scopes.specs.declared.declaring.Declaring.{Declaring as GhostDeclaring};
     ghost use Rattle.js_scopes.specs.Scopes.{own_declared as declared_by, still_declares as goes_on};
 
-    type Around = bool;
+    type Around = Declaring;
 
     type Item = &'t Token;
 
-    ghost Place = { Bool };
+    ghost Place = { GhostDeclaring };
 
     ghost Given = { GhostToken };
 
-    ghost place = { λ m. m };
+    ghost place = { λ d. d };
 
     ghost given = { λ t. t.now };
 
@@ -79,20 +82,24 @@ impl<'t> Gather<'t> for Declarations {
         &self,
         _alloc: Global,
         node: Node<'t>,
-        around: bool,
+        around: Declaring,
         out: &mut Vec<&'t Token>,
     ) -> Result<(), OutOfMemory> {
         match node {
-            Node::Stmt(statement) => push_token(declared_by_stmt(statement), out),
+            Node::Stmt(statement) => push_token(function_in(around.scope, statement), out),
             Node::Pattern(pattern) => push_token(declared_by_pattern(pattern, around), out),
             _ => Ok(()),
         }
     }
 
-    fn inside(&self, node: Node<'t>, around: bool) -> Option<bool> {
+    fn inside(&self, node: Node<'t>, around: Declaring) -> Option<Declaring> {
         match node {
             Node::Expr(_) => None,
             Node::Function(_) => None,
+            Node::Stmt(statement) => within_stmt(around.scope, kind_in_stmt(statement)),
+            Node::Body(_) => within_own(NameKind::Free, around.scope),
+            Node::Cases(_) => within_own(NameKind::Free, around.scope),
+            Node::Handler(_) => within_own(NameKind::Head, around.scope),
             _ => Some(around),
         }
     }
@@ -108,12 +115,65 @@ pub(crate) fn declared_by_stmt(statement: &Stmt) -> Option<&Token>
     }
 }
 
+// The name of a function that a statement declares in such a scope.
+fn function_in(scope: ScopeKind, statement: &Stmt) -> Option<&Token>
+    ensures { listed (option_map (λ t. t.now) result) ≡ seen.function_in scope (seen.declared_by_stmt (out-Stmt statement.now)) }
+{
+    match scope {
+        ScopeKind::Block => None,
+        ScopeKind::Head => None,
+        _ => declared_by_stmt(statement),
+    }
+}
+
 // The name that a pattern declares.
-fn declared_by_pattern(pattern: &Pattern, in_module: bool) -> Option<&Token>
-    ensures { listed (option_map (λ t. t.now) result) ≡ seen.declared_by_pattern (out-Pattern pattern.now) in_module }
+fn declared_by_pattern(pattern: &Pattern, declaring: Declaring) -> Option<&Token>
+    ensures { listed (option_map (λ t. t.now) result) ≡ seen.declared_by_pattern (out-Pattern pattern.now) declaring }
 {
     match pattern {
-        Pattern::Name(token) => kept(token, in_module),
+        Pattern::Name(token) => declared_as(declaring.names, declaring.scope, token),
+        _ => None,
+    }
+}
+
+// What a name declares that is declared so, where the names of such a scope are looked for.
+fn declared_as(names: NameKind, scope: ScopeKind, token: &Token) -> Option<&Token>
+    ensures { listed (option_map (λ t. t.now) result) ≡ seen.declared_as names scope token.now }
+{
+    match names {
+        NameKind::Free => None,
+        NameKind::Variable => variable_in(scope, token),
+        NameKind::Lexical => lexical_in(scope, token),
+        NameKind::Head => name_in_head(scope, token),
+    }
+}
+
+fn variable_in(scope: ScopeKind, token: &Token) -> Option<&Token>
+    ensures { listed (option_map (λ t. t.now) result) ≡ seen.variable_in scope token.now }
+{
+    match scope {
+        ScopeKind::Module => kept(token, true),
+        ScopeKind::InnerModule => kept(token, true),
+        ScopeKind::Function => kept(token, false),
+        _ => None,
+    }
+}
+
+fn lexical_in(scope: ScopeKind, token: &Token) -> Option<&Token>
+    ensures { listed (option_map (λ t. t.now) result) ≡ seen.lexical_in scope token.now }
+{
+    match scope {
+        ScopeKind::Module => Some(token),
+        ScopeKind::Block => Some(token),
+        _ => None,
+    }
+}
+
+fn name_in_head(scope: ScopeKind, token: &Token) -> Option<&Token>
+    ensures { listed (option_map (λ t. t.now) result) ≡ seen.name_in_head scope token.now }
+{
+    match scope {
+        ScopeKind::Head => Some(token),
         _ => None,
     }
 }
@@ -173,7 +233,13 @@ pub(crate) fn scope_in<'t>(alloc: Global, node: Node<'t>) -> Result<Option<Scope
 {
     match node {
         Node::Expr(value) => scope_in_expr(alloc, value),
-        Node::Function(function) => scope_in_function(alloc, function),
+        Node::Function(function) => {
+            scope_around(alloc, Node::Function(function), declaring_function())
+        }
+        Node::Stmt(statement) => scope_of_loop(alloc, statement),
+        Node::Body(body) => scope_around(alloc, Node::Body(body), declaring_block()),
+        Node::Cases(cases) => scope_around(alloc, Node::Cases(cases), declaring_block()),
+        Node::Handler(handler) => scope_around(alloc, Node::Handler(handler), declaring_head()),
         _ => Ok(None),
     }
 }
@@ -190,12 +256,28 @@ fn scope_in_expr(alloc: Global, value: &Expr) -> Result<Option<Scope<'_>>, OutOf
     }
 }
 
-fn scope_in_function(alloc: Global, function: &Function) -> Result<Option<Scope<'_>>, OutOfMemory>
-    requires { IsInText (AFunction function.now) }
-    ensures { IfOk result (λ scope. scope ≡ Some (seen.scope_of false (AFunction function.now))) }
+// The scope around the parts of a node that has one.
+fn scope_around<'t>(
+    alloc: Global,
+    node: Node<'t>,
+    declaring: Declaring,
+) -> Result<Option<Scope<'t>>, OutOfMemory>
+    requires { IsInText (node_of node) }
+    ensures { IfOk result (λ scope. scope ≡ Some (seen.scope_of declaring (node_of node.entry))) }
 {
-    let scope = scope_of(alloc, Node::Function(function), false)?;
+    let scope = scope_of(alloc, node, declaring)?;
     Ok(Some(scope))
+}
+
+// The scope of a loop whose head declares in it.
+fn scope_of_loop(alloc: Global, statement: &Stmt) -> Result<Option<Scope<'_>>, OutOfMemory>
+    requires { IsInText (AStmt statement.now) }
+    ensures { IfOk result (λ scope. scope ≡ seen.scope_of_loop (seen.kind_in_stmt (out-Stmt statement.now)) statement.now) }
+{
+    match kind_in_stmt(statement) {
+        NameKind::Head => scope_around(alloc, Node::Stmt(statement), declaring_head()),
+        _ => Ok(None),
+    }
 }
 
 // The scope of the own name of a function that is a value.
