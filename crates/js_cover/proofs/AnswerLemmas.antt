@@ -48,12 +48,12 @@ module _ {I J : Type 0} (R : I → J → Type 0) (o : Option I) where
   pub may_some : (x : I) (y : J) → o ≡ Some x → R x y → MayPair R o (Some y)
   may_some x y e c = subst (λ (z : Option I). MayPair R z (Some y)) (sym e) c
 
-  some_only : (x : I) (y : J) → One (R x) y → (r : Option J) → MayPair R (Some x) r → Some y ≡ r
-  some_only x y one None m = absurd m
-  some_only x y one (Some z) m = ap (λ (w : J). Some w) (one z m)
+  one_there : (x : I) (y : J) → One (R x) y → (r : Option J) → MayPair R (Some x) r → Some y ≡ r
+  one_there x y one None m = absurd m
+  one_there x y one (Some z) m = ap (λ (w : J). Some w) (one z m)
 
   pub may_some_one : (x : I) (y : J) → o ≡ Some x → One (R x) y → One (MayPair R o) (Some y)
-  may_some_one x y e one r m = some_only x y one r (subst (λ (z : Option I). MayPair R z r) e m)
+  may_some_one x y e one r m = one_there x y one r (subst (λ (z : Option I). MayPair R z r) e m)
 
   some_no : (x : I) → No (R x) → (r : Option J) → MayPair R (Some x) r → ⊥
   some_no x none None m = m

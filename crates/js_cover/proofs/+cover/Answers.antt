@@ -22,451 +22,451 @@ use Rattle.js_cover.proofs.+cover.Goals as goal
 
 -- PATTERNS
 
-pub pattern_of-returns-in-Name-clause-found : goal.pattern_of-returns-in-Name-clause-found
-pattern_of-returns-in-Name-clause-found t c = subst (λ (x : Expr). Covers x _) (sym c.in-Name.is) (name_made c.in-Name.name)
+pub patterns::pattern_of-returns-in-Name-clause-found : goal.patterns::pattern_of-returns-in-Name-clause-found
+patterns::pattern_of-returns-in-Name-clause-found t c = subst (λ (x : Expr). Covers x _) (sym c.in-Name.is) (name_made c.in-Name.name)
 
-pub pattern_of-returns-in-Name-clause-only : goal.pattern_of-returns-in-Name-clause-only
-pattern_of-returns-in-Name-clause-only t c = subst (λ (x : Expr). One (Covers x) _) (sym c.in-Name.is) (name_one c.in-Name.name)
+pub patterns::pattern_of-returns-in-Name-clause-only : goal.patterns::pattern_of-returns-in-Name-clause-only
+patterns::pattern_of-returns-in-Name-clause-only t c = subst (λ (x : Expr). One (Covers x) _) (sym c.in-Name.is) (name_one c.in-Name.name)
 
-pub pattern_of-paren_pattern-requires : goal.pattern_of-paren_pattern-requires
-pattern_of-paren_pattern-requires t c =
+pub patterns::pattern_of-paren_pattern-requires : goal.patterns::pattern_of-paren_pattern-requires
+patterns::pattern_of-paren_pattern-requires t c =
     let n = c.in-Paren in
     let low = paren_high c.args.cover n.«open» n.inner n.close (ap out-Expr n.is ∙ expression.outs-Paren n.«open» n.inner n.close) in
     (omega (arith, low), tt)
 
-pub pattern_of-returns-in-Paren-clause-found : goal.pattern_of-returns-in-Paren-clause-found
-pattern_of-returns-in-Paren-clause-found t c = subst (λ (x : Expr). Makes c.paren_pattern.result (Covers x)) (sym c.in-Paren.is) c.paren_pattern.ensures.found
+pub patterns::pattern_of-returns-in-Paren-clause-found : goal.patterns::pattern_of-returns-in-Paren-clause-found
+patterns::pattern_of-returns-in-Paren-clause-found t c = subst (λ (x : Expr). Makes c.paren_pattern.result (Covers x)) (sym c.in-Paren.is) c.paren_pattern.ensures.found
 
-pub pattern_of-returns-in-Paren-clause-only : goal.pattern_of-returns-in-Paren-clause-only
-pattern_of-returns-in-Paren-clause-only t c = subst (λ (x : Expr). MakesOnly c.paren_pattern.result (Covers x)) (sym c.in-Paren.is) c.paren_pattern.ensures.only
+pub patterns::pattern_of-returns-in-Paren-clause-only : goal.patterns::pattern_of-returns-in-Paren-clause-only
+patterns::pattern_of-returns-in-Paren-clause-only t c = subst (λ (x : Expr). MakesOnly c.paren_pattern.result (Covers x)) (sym c.in-Paren.is) c.paren_pattern.ensures.only
 
-pub pattern_of-array_pattern-requires : goal.pattern_of-array_pattern-requires
-pattern_of-array_pattern-requires t c =
+pub patterns::pattern_of-array_pattern-requires : goal.patterns::pattern_of-array_pattern-requires
+patterns::pattern_of-array_pattern-requires t c =
     let n = c.in-Array in
     let low = array_high c.args.cover n.items (ap out-Expr n.is ∙ expression.outs-Array n.items) in
     (omega (arith, low), tt)
 
-pub pattern_of-returns-in-Array-clause-found : goal.pattern_of-returns-in-Array-clause-found
-pattern_of-returns-in-Array-clause-found t c = subst (λ (x : Expr). Makes c.array_pattern.result (Covers x)) (sym c.in-Array.is) c.array_pattern.ensures.found
+pub patterns::pattern_of-returns-in-Array-clause-found : goal.patterns::pattern_of-returns-in-Array-clause-found
+patterns::pattern_of-returns-in-Array-clause-found t c = subst (λ (x : Expr). Makes c.array_pattern.result (Covers x)) (sym c.in-Array.is) c.array_pattern.ensures.found
 
-pub pattern_of-returns-in-Array-clause-only : goal.pattern_of-returns-in-Array-clause-only
-pattern_of-returns-in-Array-clause-only t c = subst (λ (x : Expr). MakesOnly c.array_pattern.result (Covers x)) (sym c.in-Array.is) c.array_pattern.ensures.only
+pub patterns::pattern_of-returns-in-Array-clause-only : goal.patterns::pattern_of-returns-in-Array-clause-only
+patterns::pattern_of-returns-in-Array-clause-only t c = subst (λ (x : Expr). MakesOnly c.array_pattern.result (Covers x)) (sym c.in-Array.is) c.array_pattern.ensures.only
 
-pub pattern_of-object_pattern-requires : goal.pattern_of-object_pattern-requires
-pattern_of-object_pattern-requires t c =
+pub patterns::pattern_of-object_pattern-requires : goal.patterns::pattern_of-object_pattern-requires
+patterns::pattern_of-object_pattern-requires t c =
     let n = c.in-Object in
     let low = object_high c.args.cover n.properties (ap out-Expr n.is ∙ expression.outs-Object n.properties) in
     (omega (arith, low), tt)
 
-pub pattern_of-returns-in-Object-clause-found : goal.pattern_of-returns-in-Object-clause-found
-pattern_of-returns-in-Object-clause-found t c = subst (λ (x : Expr). Makes c.object_pattern.result (Covers x)) (sym c.in-Object.is) c.object_pattern.ensures.found
+pub patterns::pattern_of-returns-in-Object-clause-found : goal.patterns::pattern_of-returns-in-Object-clause-found
+patterns::pattern_of-returns-in-Object-clause-found t c = subst (λ (x : Expr). Makes c.object_pattern.result (Covers x)) (sym c.in-Object.is) c.object_pattern.ensures.found
 
-pub pattern_of-returns-in-Object-clause-only : goal.pattern_of-returns-in-Object-clause-only
-pattern_of-returns-in-Object-clause-only t c = subst (λ (x : Expr). MakesOnly c.object_pattern.result (Covers x)) (sym c.in-Object.is) c.object_pattern.ensures.only
+pub patterns::pattern_of-returns-in-Object-clause-only : goal.patterns::pattern_of-returns-in-Object-clause-only
+patterns::pattern_of-returns-in-Object-clause-only t c = subst (λ (x : Expr). MakesOnly c.object_pattern.result (Covers x)) (sym c.in-Object.is) c.object_pattern.ensures.only
 
-pub pattern_of-returns-in-Chain-clause-found : goal.pattern_of-returns-in-Chain-clause-found
-pattern_of-returns-in-Chain-clause-found t c = subst (λ (x : Expr). Makes c.member_pattern.result (Covers x)) (sym c.in-Chain.is) c.member_pattern.ensures.found
+pub patterns::pattern_of-returns-in-Chain-clause-found : goal.patterns::pattern_of-returns-in-Chain-clause-found
+patterns::pattern_of-returns-in-Chain-clause-found t c = subst (λ (x : Expr). Makes c.member_pattern.result (Covers x)) (sym c.in-Chain.is) c.member_pattern.ensures.found
 
-pub pattern_of-returns-in-Chain-clause-only : goal.pattern_of-returns-in-Chain-clause-only
-pattern_of-returns-in-Chain-clause-only t c = subst (λ (x : Expr). MakesOnly c.member_pattern.result (Covers x)) (sym c.in-Chain.is) c.member_pattern.ensures.only
+pub patterns::pattern_of-returns-in-Chain-clause-only : goal.patterns::pattern_of-returns-in-Chain-clause-only
+patterns::pattern_of-returns-in-Chain-clause-only t c = subst (λ (x : Expr). MakesOnly c.member_pattern.result (Covers x)) (sym c.in-Chain.is) c.member_pattern.ensures.only
 
-pub pattern_of-returns-in_default-clause-only : goal.pattern_of-returns-in_default-clause-only
-pattern_of-returns-in_default-clause-only t c = others_no c.args.cover c.in_default.not-Name c.in_default.not-Paren c.in_default.not-Array c.in_default.not-Object c.in_default.not-Chain
+pub patterns::pattern_of-returns-in_default-clause-only : goal.patterns::pattern_of-returns-in_default-clause-only
+patterns::pattern_of-returns-in_default-clause-only t c = others_no c.args.cover c.in_default.not-Name c.in_default.not-Paren c.in_default.not-Array c.in_default.not-Object c.in_default.not-Chain
 
 -- ROUND BRACKETS
 
-pub paren_pattern-pattern_of-requires : goal.paren_pattern-pattern_of-requires
-paren_pattern-pattern_of-requires t c =
+pub patterns::paren_pattern-pattern_of-requires : goal.patterns::paren_pattern-pattern_of-requires
+patterns::paren_pattern-pattern_of-requires t c =
     let same = ap (λ (x : Expr). (expr x).height) c.into_inner.ensures in
     (omega (arith, same), tt)
 
-pub paren_pattern-returns-in_default-clause-only : goal.paren_pattern-returns-in_default-clause-only
-paren_pattern-returns-in_default-clause-only t c =
+pub patterns::paren_pattern-returns-in_default-clause-only : goal.patterns::paren_pattern-returns-in_default-clause-only
+patterns::paren_pattern-returns-in_default-clause-only t c =
     paren_no c.args.begin c.args.inner c.args.end (made_no Covers _ c.args.inner c.into_inner.ensures _ (none_of _ c.in_default.not-Some) c.in_ok-inner.ensures.only)
 
-pub paren_pattern-returns-then-not-is_place-clause-only : goal.paren_pattern-returns-then-not-is_place-clause-only
-paren_pattern-returns-then-not-is_place-clause-only t c =
+pub patterns::paren_pattern-returns-then-not-is_place-clause-only : goal.patterns::paren_pattern-returns-then-not-is_place-clause-only
+patterns::paren_pattern-returns-then-not-is_place-clause-only t c =
     paren_no_place c.args.begin c.args.inner c.args.end c.in-Some.inner (made_one Covers _ c.args.inner c.into_inner.ensures _ c.in-Some.inner c.in-Some.is c.in_ok-inner.ensures.only)
     (sym c.is_place.ensures ∙ c.if-not-is_place.true)
 
-pub paren_pattern-returns-clause-found : goal.paren_pattern-returns-clause-found
-paren_pattern-returns-clause-found t c =
+pub patterns::paren_pattern-returns-clause-found : goal.patterns::paren_pattern-returns-clause-found
+patterns::paren_pattern-returns-clause-found t c =
     paren_made c.args.begin c.args.inner c.args.end c.in-Some.inner _ c.in_ok-new.ensures (has_made Covers _ c.args.inner c.into_inner.ensures _ c.in-Some.inner c.in-Some.is c.in_ok-inner.ensures.found)
     (sym c.is_place.ensures ∙ c.if-not-is_place.false)
 
-pub paren_pattern-returns-clause-only : goal.paren_pattern-returns-clause-only
-paren_pattern-returns-clause-only t c =
+pub patterns::paren_pattern-returns-clause-only : goal.patterns::paren_pattern-returns-clause-only
+patterns::paren_pattern-returns-clause-only t c =
     paren_one c.args.begin c.args.inner c.args.end c.in-Some.inner _ c.in_ok-new.ensures (made_one Covers _ c.args.inner c.into_inner.ensures _ c.in-Some.inner c.in-Some.is c.in_ok-inner.ensures.only)
 
 -- SLOTS
 
-pub slot_of-returns-in-Assign-clause-found : goal.slot_of-returns-in-Assign-clause-found
-slot_of-returns-in-Assign-clause-found t c = some_found CoversSlot _ c.args.cover (sym c.in-Assign.is) c.slot_with_init.result c.slot_with_init.ensures.found
+pub slots::slot_of-returns-in-Assign-clause-found : goal.slots::slot_of-returns-in-Assign-clause-found
+slots::slot_of-returns-in-Assign-clause-found t c = some_found CoversSlot _ c.args.cover (sym c.in-Assign.is) c.slot_with_init.result c.slot_with_init.ensures.found
 
-pub slot_of-returns-in-Assign-clause-only : goal.slot_of-returns-in-Assign-clause-only
-slot_of-returns-in-Assign-clause-only t c = some_only CoversSlot _ c.args.cover (sym c.in-Assign.is) c.slot_with_init.result c.slot_with_init.ensures.only
+pub slots::slot_of-returns-in-Assign-clause-only : goal.slots::slot_of-returns-in-Assign-clause-only
+slots::slot_of-returns-in-Assign-clause-only t c = some_only CoversSlot _ c.args.cover (sym c.in-Assign.is) c.slot_with_init.result c.slot_with_init.ensures.only
 
-pub slot_of-slot_alone-requires : goal.slot_of-slot_alone-requires
-slot_of-slot_alone-requires t c =
+pub slots::slot_of-slot_alone-requires : goal.slots::slot_of-slot_alone-requires
+slots::slot_of-slot_alone-requires t c =
     let same = c.in_default.other-is in
     let high = ap (λ (x : Expr). (expr x).height) same in
     (omega (arith, high), no_assign _ (λ target op value e. c.in_default.not-Assign target op value (same ∙ e)))
 
-pub slot_of-returns-in_default-clause-found : goal.slot_of-returns-in_default-clause-found
-slot_of-returns-in_default-clause-found t c = subst (λ (x : Expr). Makes c.slot_alone.result (CoversSlot x)) (sym c.in_default.other-is) c.slot_alone.ensures.found
+pub slots::slot_of-returns-in_default-clause-found : goal.slots::slot_of-returns-in_default-clause-found
+slots::slot_of-returns-in_default-clause-found t c = subst (λ (x : Expr). Makes c.slot_alone.result (CoversSlot x)) (sym c.in_default.other-is) c.slot_alone.ensures.found
 
-pub slot_of-returns-in_default-clause-only : goal.slot_of-returns-in_default-clause-only
-slot_of-returns-in_default-clause-only t c = subst (λ (x : Expr). MakesOnly c.slot_alone.result (CoversSlot x)) (sym c.in_default.other-is) c.slot_alone.ensures.only
+pub slots::slot_of-returns-in_default-clause-only : goal.slots::slot_of-returns-in_default-clause-only
+slots::slot_of-returns-in_default-clause-only t c = subst (λ (x : Expr). MakesOnly c.slot_alone.result (CoversSlot x)) (sym c.in_default.other-is) c.slot_alone.ensures.only
 
-pub slot_alone-returns-in_default-clause-only : goal.slot_alone-returns-in_default-clause-only
-slot_alone-returns-in_default-clause-only t c = alone_no c.args.cover c.requires.kind (made_no Covers _ c.args.cover refl _ (none_of _ c.in_default.not-Some) c.in_ok-target.ensures.only)
+pub slots::slot_alone-returns-in_default-clause-only : goal.slots::slot_alone-returns-in_default-clause-only
+slots::slot_alone-returns-in_default-clause-only t c = alone_no c.args.cover c.requires.kind (made_no Covers _ c.args.cover refl _ (none_of _ c.in_default.not-Some) c.in_ok-target.ensures.only)
 
-pub slot_alone-returns-clause-found : goal.slot_alone-returns-clause-found
-slot_alone-returns-clause-found t c = alone_made c.args.cover c.in-Some.target (has_made Covers _ c.args.cover refl _ c.in-Some.target c.in-Some.is c.in_ok-target.ensures.found)
+pub slots::slot_alone-returns-clause-found : goal.slots::slot_alone-returns-clause-found
+slots::slot_alone-returns-clause-found t c = alone_made c.args.cover c.in-Some.target (has_made Covers _ c.args.cover refl _ c.in-Some.target c.in-Some.is c.in_ok-target.ensures.found)
 
-pub slot_alone-returns-clause-only : goal.slot_alone-returns-clause-only
-slot_alone-returns-clause-only t c = alone_one c.args.cover c.in-Some.target c.requires.kind (made_one Covers _ c.args.cover refl _ c.in-Some.target c.in-Some.is c.in_ok-target.ensures.only)
+pub slots::slot_alone-returns-clause-only : goal.slots::slot_alone-returns-clause-only
+slots::slot_alone-returns-clause-only t c = alone_one c.args.cover c.in-Some.target c.requires.kind (made_one Covers _ c.args.cover refl _ c.in-Some.target c.in-Some.is c.in_ok-target.ensures.only)
 
 -- ITEMS
 
-pub element_slot-slot_of-requires : goal.element_slot-slot_of-requires
-element_slot-slot_of-requires t c =
+pub arrays::element_slot-slot_of-requires : goal.arrays::element_slot-slot_of-requires
+arrays::element_slot-slot_of-requires t c =
     let same = ap (λ (x : Expr). (expr x).height) c.into_inner.ensures in
     (omega (arith, same), tt)
 
-pub element_slot-returns-in_default-clause-only : goal.element_slot-returns-in_default-clause-only
-element_slot-returns-in_default-clause-only t c = element_no CoversSlot c.args.element (made_no CoversSlot _ _ c.into_inner.ensures _ (none_of _ c.in_default.not-Some) c.in_ok-value.ensures.only)
+pub arrays::element_slot-returns-in_default-clause-only : goal.arrays::element_slot-returns-in_default-clause-only
+arrays::element_slot-returns-in_default-clause-only t c = element_no CoversSlot c.args.element (made_no CoversSlot _ _ c.into_inner.ensures _ (none_of _ c.in_default.not-Some) c.in_ok-value.ensures.only)
 
-pub element_slot-returns-clause-found : goal.element_slot-returns-clause-found
-element_slot-returns-clause-found t c = element_of CoversSlot c.args.element c.in-Some.value (has_made CoversSlot _ _ c.into_inner.ensures _ c.in-Some.value c.in-Some.is c.in_ok-value.ensures.found)
+pub arrays::element_slot-returns-clause-found : goal.arrays::element_slot-returns-clause-found
+arrays::element_slot-returns-clause-found t c = element_of CoversSlot c.args.element c.in-Some.value (has_made CoversSlot _ _ c.into_inner.ensures _ c.in-Some.value c.in-Some.is c.in_ok-value.ensures.found)
 
-pub element_slot-returns-clause-only : goal.element_slot-returns-clause-only
-element_slot-returns-clause-only t c = element_one CoversSlot c.args.element c.in-Some.value (made_one CoversSlot _ _ c.into_inner.ensures _ c.in-Some.value c.in-Some.is c.in_ok-value.ensures.only)
+pub arrays::element_slot-returns-clause-only : goal.arrays::element_slot-returns-clause-only
+arrays::element_slot-returns-clause-only t c = element_one CoversSlot c.args.element c.in-Some.value (made_one CoversSlot _ _ c.into_inner.ensures _ c.in-Some.value c.in-Some.is c.in_ok-value.ensures.only)
 
-pub item_slot-element_slot-requires : goal.item_slot-element_slot-requires
-item_slot-element_slot-requires t c =
+pub arrays::item_slot-element_slot-requires : goal.arrays::item_slot-element_slot-requires
+arrays::item_slot-element_slot-requires t c =
     let same = ap item_height c.in-Some.is in
     (omega (arith, same), tt)
 
-pub item_slot-returns-in_default-clause-found : goal.item_slot-returns-in_default-clause-found
-item_slot-returns-in_default-clause-found t c = may_none (ElementPair CoversSlot) c.args.item (none_of _ c.in_default.not-Some)
+pub arrays::item_slot-returns-in_default-clause-found : goal.arrays::item_slot-returns-in_default-clause-found
+arrays::item_slot-returns-in_default-clause-found t c = may_none (ElementPair CoversSlot) c.args.item (none_of _ c.in_default.not-Some)
 
-pub item_slot-returns-in_default-clause-only : goal.item_slot-returns-in_default-clause-only
-item_slot-returns-in_default-clause-only t c = may_none_one (ElementPair CoversSlot) c.args.item (none_of _ c.in_default.not-Some)
+pub arrays::item_slot-returns-in_default-clause-only : goal.arrays::item_slot-returns-in_default-clause-only
+arrays::item_slot-returns-in_default-clause-only t c = may_none_one (ElementPair CoversSlot) c.args.item (none_of _ c.in_default.not-Some)
 
-pub item_slot-returns-in_default-2-clause-only : goal.item_slot-returns-in_default-2-clause-only
-item_slot-returns-in_default-2-clause-only t c =
+pub arrays::item_slot-returns-in_default-2-clause-only : goal.arrays::item_slot-returns-in_default-2-clause-only
+arrays::item_slot-returns-in_default-2-clause-only t c =
     may_some_no (ElementPair CoversSlot) c.args.item c.in-Some.element c.in-Some.is (made_no (ElementPair CoversSlot) _ _ refl _ (none_of _ c.in_default-2.not-Some) c.in_ok-element.ensures.only)
 
-pub item_slot-returns-clause-found : goal.item_slot-returns-clause-found
-item_slot-returns-clause-found t c =
+pub arrays::item_slot-returns-clause-found : goal.arrays::item_slot-returns-clause-found
+arrays::item_slot-returns-clause-found t c =
     may_some (ElementPair CoversSlot) c.args.item c.in-Some.element c.in-Some-2.element c.in-Some.is (has_made (ElementPair CoversSlot) _ _ refl _ c.in-Some-2.element c.in-Some-2.is c.in_ok-element.ensures.found)
 
-pub item_slot-returns-clause-only : goal.item_slot-returns-clause-only
-item_slot-returns-clause-only t c =
+pub arrays::item_slot-returns-clause-only : goal.arrays::item_slot-returns-clause-only
+arrays::item_slot-returns-clause-only t c =
     may_some_one (ElementPair CoversSlot) c.args.item c.in-Some.element c.in-Some-2.element c.in-Some.is (made_one (ElementPair CoversSlot) _ _ refl _ c.in-Some-2.element c.in-Some-2.is c.in_ok-element.ensures.only)
 
-pub last_slot-item_slot-requires : goal.last_slot-item_slot-requires
-last_slot-item_slot-requires t c =
+pub arrays::last_slot-item_slot-requires : goal.arrays::last_slot-item_slot-requires
+arrays::last_slot-item_slot-requires t c =
     let same = ap (may_high item_height) c.in-Some.is in
     (omega (arith, same), tt)
 
-pub last_slot-returns-in_default-clause-found : goal.last_slot-returns-in_default-clause-found
-last_slot-returns-in_default-clause-found t c = may_none (ItemPair CoversSlot) c.args.last (none_of _ c.in_default.not-Some)
+pub arrays::last_slot-returns-in_default-clause-found : goal.arrays::last_slot-returns-in_default-clause-found
+arrays::last_slot-returns-in_default-clause-found t c = may_none (ItemPair CoversSlot) c.args.last (none_of _ c.in_default.not-Some)
 
-pub last_slot-returns-in_default-clause-only : goal.last_slot-returns-in_default-clause-only
-last_slot-returns-in_default-clause-only t c = may_none_one (ItemPair CoversSlot) c.args.last (none_of _ c.in_default.not-Some)
+pub arrays::last_slot-returns-in_default-clause-only : goal.arrays::last_slot-returns-in_default-clause-only
+arrays::last_slot-returns-in_default-clause-only t c = may_none_one (ItemPair CoversSlot) c.args.last (none_of _ c.in_default.not-Some)
 
-pub last_slot-returns-in_default-2-clause-only : goal.last_slot-returns-in_default-2-clause-only
-last_slot-returns-in_default-2-clause-only t c =
+pub arrays::last_slot-returns-in_default-2-clause-only : goal.arrays::last_slot-returns-in_default-2-clause-only
+arrays::last_slot-returns-in_default-2-clause-only t c =
     may_some_no (ItemPair CoversSlot) c.args.last c.in-Some.item c.in-Some.is (made_no (ItemPair CoversSlot) _ _ refl _ (none_of _ c.in_default-2.not-Some) c.in_ok-item.ensures.only)
 
-pub last_slot-returns-clause-found : goal.last_slot-returns-clause-found
-last_slot-returns-clause-found t c =
+pub arrays::last_slot-returns-clause-found : goal.arrays::last_slot-returns-clause-found
+arrays::last_slot-returns-clause-found t c =
     may_some (ItemPair CoversSlot) c.args.last c.in-Some.item c.in-Some-2.item c.in-Some.is (has_made (ItemPair CoversSlot) _ _ refl _ c.in-Some-2.item c.in-Some-2.is c.in_ok-item.ensures.found)
 
-pub last_slot-returns-clause-only : goal.last_slot-returns-clause-only
-last_slot-returns-clause-only t c =
+pub arrays::last_slot-returns-clause-only : goal.arrays::last_slot-returns-clause-only
+arrays::last_slot-returns-clause-only t c =
     may_some_one (ItemPair CoversSlot) c.args.last c.in-Some.item c.in-Some-2.item c.in-Some.is (made_one (ItemPair CoversSlot) _ _ refl _ c.in-Some-2.item c.in-Some-2.is c.in_ok-item.ensures.only)
 
-pub front_slots-loop-listed-init : goal.front_slots-loop-listed-init
-front_slots-loop-listed-init t c =
+pub arrays::front_slots-loop-listed-init : goal.arrays::front_slots-loop-listed-init
+arrays::front_slots-loop-listed-init t c =
     let e = c.in_ok-left.ensures {u = tt} in
     record {
       halfway = loop_start (ItemPair CoversSlot) c.args.front _ _ e c.new-slots.ensures;
       low = start_low item_height c.args.front _ e;
     }
 
-pub front_slots-item_slot-requires : goal.front_slots-item_slot-requires
-front_slots-item_slot-requires t c =
+pub arrays::front_slots-item_slot-requires : goal.arrays::front_slots-item_slot-requires
+arrays::front_slots-item_slot-requires t c =
     let low = next_low item_height _ c.loop-listed.left _ c.in-Some.listed c.in-Some.ensures c.loop-listed.invariant.low in
     (omega (arith, low), tt)
 
-pub front_slots-returns-in_default-clause-only : goal.front_slots-returns-in_default-clause-only
-front_slots-returns-in_default-clause-only t c =
+pub arrays::front_slots-returns-in_default-clause-only : goal.arrays::front_slots-returns-in_default-clause-only
+arrays::front_slots-returns-in_default-clause-only t c =
     loop_none (ItemPair CoversSlot) c.args.front c.loop-listed.left _ c.loop-listed.slots c.in-Some.listed c.in-Some.ensures c.loop-listed.invariant.halfway
     (made_no (ItemPair CoversSlot) _ _ refl _ (none_of _ c.in_default.not-Some) c.in_ok-item.ensures.only)
 
-pub front_slots-loop-listed-smaller : goal.front_slots-loop-listed-smaller
-front_slots-loop-listed-smaller t c = taken_shorter _ _ c.in-Some.listed c.in-Some.ensures
+pub arrays::front_slots-loop-listed-smaller : goal.arrays::front_slots-loop-listed-smaller
+arrays::front_slots-loop-listed-smaller t c = taken_shorter _ _ c.in-Some.listed c.in-Some.ensures
 
-pub front_slots-loop-listed-preserved : goal.front_slots-loop-listed-preserved
-front_slots-loop-listed-preserved t c = record {
+pub arrays::front_slots-loop-listed-preserved : goal.arrays::front_slots-loop-listed-preserved
+arrays::front_slots-loop-listed-preserved t c = record {
   halfway = loop_next (ItemPair CoversSlot) c.args.front c.loop-listed.left _ c.loop-listed.slots _ c.in-Some.listed c.in-Some-2.item c.in-Some.ensures (c.in_ok-push_item.ensures {u = tt}) c.loop-listed.invariant.halfway
       (has_made (ItemPair CoversSlot) _ _ refl _ c.in-Some-2.item c.in-Some-2.is c.in_ok-item.ensures.found) (made_one (ItemPair CoversSlot) _ _ refl _ c.in-Some-2.item c.in-Some-2.is c.in_ok-item.ensures.only);
   low = rest_low item_height _ c.loop-listed.left _ c.in-Some.listed c.in-Some.ensures c.loop-listed.invariant.low;
 }
 
-pub front_slots-returns-clause-found : goal.front_slots-returns-clause-found
-front_slots-returns-clause-found t c = loop_found (ItemPair CoversSlot) c.args.front c.loop-listed.left c.loop-listed.slots c.in-None.ensures.0 c.loop-listed.invariant.halfway
+pub arrays::front_slots-returns-clause-found : goal.arrays::front_slots-returns-clause-found
+arrays::front_slots-returns-clause-found t c = loop_found (ItemPair CoversSlot) c.args.front c.loop-listed.left c.loop-listed.slots (c.in_default.ensures {u = tt}).0 c.loop-listed.invariant.halfway
 
-pub front_slots-returns-clause-only : goal.front_slots-returns-clause-only
-front_slots-returns-clause-only t c = loop_only (ItemPair CoversSlot) c.args.front c.loop-listed.left c.loop-listed.slots c.in-None.ensures.0 c.loop-listed.invariant.halfway
+pub arrays::front_slots-returns-clause-only : goal.arrays::front_slots-returns-clause-only
+arrays::front_slots-returns-clause-only t c = loop_only (ItemPair CoversSlot) c.args.front c.loop-listed.left c.loop-listed.slots (c.in_default.ensures {u = tt}).0 c.loop-listed.invariant.halfway
 
 -- ARRAYS
 
-pub array_slots-front_slots-requires : goal.array_slots-front_slots-requires
-array_slots-front_slots-requires t c = (omega arith, tt)
+pub arrays::array_slots-front_slots-requires : goal.arrays::array_slots-front_slots-requires
+arrays::array_slots-front_slots-requires t c = (omega arith, tt)
 
-pub array_slots-last_slot-requires : goal.array_slots-last_slot-requires
-array_slots-last_slot-requires t c = (omega arith, tt)
+pub arrays::array_slots-last_slot-requires : goal.arrays::array_slots-last_slot-requires
+arrays::array_slots-last_slot-requires t c = (omega arith, tt)
 
-pub array_slots-returns-in_default-clause-only : goal.array_slots-returns-in_default-clause-only
-array_slots-returns-in_default-clause-only t c =
+pub arrays::array_slots-returns-in_default-clause-only : goal.arrays::array_slots-returns-in_default-clause-only
+arrays::array_slots-returns-in_default-clause-only t c =
     bracket_no_front (ItemPair CoversSlot) c.args.items (made_no (EachPair (ItemPair CoversSlot)) _ _ refl _ (none_of _ c.in_default.not-Some) c.in_ok-front.ensures.only)
 
-pub array_slots-returns-in_default-2-clause-only : goal.array_slots-returns-in_default-2-clause-only
-array_slots-returns-in_default-2-clause-only t c =
+pub arrays::array_slots-returns-in_default-2-clause-only : goal.arrays::array_slots-returns-in_default-2-clause-only
+arrays::array_slots-returns-in_default-2-clause-only t c =
     bracket_no_last (ItemPair CoversSlot) c.args.items (made_no (MayPair (ItemPair CoversSlot)) _ _ refl _ (none_of _ c.in_default-2.not-Some) c.in_ok-last.ensures.only)
 
-pub array_slots-returns-clause-found : goal.array_slots-returns-clause-found
-array_slots-returns-clause-found t c =
+pub arrays::array_slots-returns-clause-found : goal.arrays::array_slots-returns-clause-found
+arrays::array_slots-returns-clause-found t c =
     bracket_of (ItemPair CoversSlot) c.args.items c.in-Some.front c.in-Some-2.last (has_made (EachPair (ItemPair CoversSlot)) _ _ refl _ c.in-Some.front c.in-Some.is c.in_ok-front.ensures.found)
     (has_made (MayPair (ItemPair CoversSlot)) _ _ refl _ c.in-Some-2.last c.in-Some-2.is c.in_ok-last.ensures.found)
 
-pub array_slots-returns-clause-only : goal.array_slots-returns-clause-only
-array_slots-returns-clause-only t c =
+pub arrays::array_slots-returns-clause-only : goal.arrays::array_slots-returns-clause-only
+arrays::array_slots-returns-clause-only t c =
     bracket_one (ItemPair CoversSlot) c.args.items c.in-Some.front c.in-Some-2.last (made_one (EachPair (ItemPair CoversSlot)) _ _ refl _ c.in-Some.front c.in-Some.is c.in_ok-front.ensures.only)
     (made_one (MayPair (ItemPair CoversSlot)) _ _ refl _ c.in-Some-2.last c.in-Some-2.is c.in_ok-last.ensures.only)
 
-pub array_pattern-array_slots-requires : goal.array_pattern-array_slots-requires
-array_pattern-array_slots-requires t c =
+pub arrays::array_pattern-array_slots-requires : goal.arrays::array_pattern-array_slots-requires
+arrays::array_pattern-array_slots-requires t c =
     let same = ap (bracket_high item_height) c.into_inner.ensures in
     (omega (arith, same), tt)
 
-pub array_pattern-returns-in_default-clause-only : goal.array_pattern-returns-in_default-clause-only
-array_pattern-returns-in_default-clause-only t c =
+pub arrays::array_pattern-returns-in_default-clause-only : goal.arrays::array_pattern-returns-in_default-clause-only
+arrays::array_pattern-returns-in_default-clause-only t c =
     array_no c.args.items (made_no (InPairs (ItemPair CoversSlot)) _ c.args.items c.into_inner.ensures _ (none_of _ c.in_default.not-Some) c.in_ok-slots.ensures.only)
 
-pub array_pattern-returns-then-not-ends_well-clause-only : goal.array_pattern-returns-then-not-ends_well-clause-only
-array_pattern-returns-then-not-ends_well-clause-only t c =
+pub arrays::array_pattern-returns-then-not-ends_well-clause-only : goal.arrays::array_pattern-returns-then-not-ends_well-clause-only
+arrays::array_pattern-returns-then-not-ends_well-clause-only t c =
     array_no_end c.args.items c.in-Some.slots (made_one (InPairs (ItemPair CoversSlot)) _ c.args.items c.into_inner.ensures _ c.in-Some.slots c.in-Some.is c.in_ok-slots.ensures.only)
     (sym c.ends_well.ensures ∙ c.if-not-ends_well.true)
 
-pub array_pattern-returns-clause-found : goal.array_pattern-returns-clause-found
-array_pattern-returns-clause-found t c =
+pub arrays::array_pattern-returns-clause-found : goal.arrays::array_pattern-returns-clause-found
+arrays::array_pattern-returns-clause-found t c =
     array_made c.args.items c.in-Some.slots _ c.in_ok-new.ensures (has_made (InPairs (ItemPair CoversSlot)) _ c.args.items c.into_inner.ensures _ c.in-Some.slots c.in-Some.is c.in_ok-slots.ensures.found)
     (sym c.ends_well.ensures ∙ c.if-not-ends_well.false)
 
-pub array_pattern-returns-clause-only : goal.array_pattern-returns-clause-only
-array_pattern-returns-clause-only t c =
+pub arrays::array_pattern-returns-clause-only : goal.arrays::array_pattern-returns-clause-only
+arrays::array_pattern-returns-clause-only t c =
     array_one c.args.items c.in-Some.slots _ c.in_ok-new.ensures (made_one (InPairs (ItemPair CoversSlot)) _ c.args.items c.into_inner.ensures _ c.in-Some.slots c.in-Some.is c.in_ok-slots.ensures.only)
 
 -- PROPERTIES
 
-pub keyed-slot_of-requires : goal.keyed-slot_of-requires
-keyed-slot_of-requires t c =
+pub objects::keyed-slot_of-requires : goal.objects::keyed-slot_of-requires
+objects::keyed-slot_of-requires t c =
     let same = ap (λ (x : Expr). (expr x).height) c.into_inner.ensures in
     (omega (arith, same), tt)
 
-pub keyed-returns-in_default-clause-only : goal.keyed-returns-in_default-clause-only
-keyed-returns-in_default-clause-only t c = keyed_no c.args.key c.args.colon c.args.value (made_no CoversSlot _ c.args.value c.into_inner.ensures _ (none_of _ c.in_default.not-Some) c.in_ok-slot.ensures.only)
+pub objects::keyed-returns-in_default-clause-only : goal.objects::keyed-returns-in_default-clause-only
+objects::keyed-returns-in_default-clause-only t c = keyed_no c.args.key c.args.colon c.args.value (made_no CoversSlot _ c.args.value c.into_inner.ensures _ (none_of _ c.in_default.not-Some) c.in_ok-slot.ensures.only)
 
-pub keyed-returns-clause-found : goal.keyed-returns-clause-found
-keyed-returns-clause-found t c =
+pub objects::keyed-returns-clause-found : goal.objects::keyed-returns-clause-found
+objects::keyed-returns-clause-found t c =
     keyed_made c.args.key c.args.colon c.args.value c.in-Some.slot (has_made CoversSlot _ c.args.value c.into_inner.ensures _ c.in-Some.slot c.in-Some.is c.in_ok-slot.ensures.found)
 
-pub keyed-returns-clause-only : goal.keyed-returns-clause-only
-keyed-returns-clause-only t c = keyed_one c.args.key c.args.colon c.args.value c.in-Some.slot (made_one CoversSlot _ c.args.value c.into_inner.ensures _ c.in-Some.slot c.in-Some.is c.in_ok-slot.ensures.only)
+pub objects::keyed-returns-clause-only : goal.objects::keyed-returns-clause-only
+objects::keyed-returns-clause-only t c = keyed_one c.args.key c.args.colon c.args.value c.in-Some.slot (made_one CoversSlot _ c.args.value c.into_inner.ensures _ c.in-Some.slot c.in-Some.is c.in_ok-slot.ensures.only)
 
-pub named-slot_of-requires : goal.named-slot_of-requires
-named-slot_of-requires t c =
+pub objects::named-slot_of-requires : goal.objects::named-slot_of-requires
+objects::named-slot_of-requires t c =
     let same = ap (λ (x : Expr). (expr x).height) c.into_inner.ensures in
     (omega (arith, same), tt)
 
-pub named-returns-in_default-clause-only : goal.named-returns-in_default-clause-only
-named-returns-in_default-clause-only t c = named_no c.args.value (made_no CoversSlot _ c.args.value c.into_inner.ensures _ (none_of _ c.in_default.not-Some) c.in_ok-slot.ensures.only)
+pub objects::named-returns-in_default-clause-only : goal.objects::named-returns-in_default-clause-only
+objects::named-returns-in_default-clause-only t c = named_no c.args.value (made_no CoversSlot _ c.args.value c.into_inner.ensures _ (none_of _ c.in_default.not-Some) c.in_ok-slot.ensures.only)
 
-pub named-returns-then-not-is_named-clause-only : goal.named-returns-then-not-is_named-clause-only
-named-returns-then-not-is_named-clause-only t c =
+pub objects::named-returns-then-not-is_named-clause-only : goal.objects::named-returns-then-not-is_named-clause-only
+objects::named-returns-then-not-is_named-clause-only t c =
     named_no_name c.args.value c.in-Some.slot (made_one CoversSlot _ c.args.value c.into_inner.ensures _ c.in-Some.slot c.in-Some.is c.in_ok-slot.ensures.only) (sym c.is_named.ensures ∙ c.if-not-is_named.true)
 
-pub named-returns-clause-found : goal.named-returns-clause-found
-named-returns-clause-found t c =
+pub objects::named-returns-clause-found : goal.objects::named-returns-clause-found
+objects::named-returns-clause-found t c =
     named_made c.args.value c.in-Some.slot (has_made CoversSlot _ c.args.value c.into_inner.ensures _ c.in-Some.slot c.in-Some.is c.in_ok-slot.ensures.found) (sym c.is_named.ensures ∙ c.if-not-is_named.false)
 
-pub named-returns-clause-only : goal.named-returns-clause-only
-named-returns-clause-only t c = named_one c.args.value c.in-Some.slot (made_one CoversSlot _ c.args.value c.into_inner.ensures _ c.in-Some.slot c.in-Some.is c.in_ok-slot.ensures.only)
+pub objects::named-returns-clause-only : goal.objects::named-returns-clause-only
+objects::named-returns-clause-only t c = named_one c.args.value c.in-Some.slot (made_one CoversSlot _ c.args.value c.into_inner.ensures _ c.in-Some.slot c.in-Some.is c.in_ok-slot.ensures.only)
 
-pub rest-slot_of-requires : goal.rest-slot_of-requires
-rest-slot_of-requires t c =
+pub objects::rest-slot_of-requires : goal.objects::rest-slot_of-requires
+objects::rest-slot_of-requires t c =
     let same = ap (λ (x : Expr). (expr x).height) c.into_inner.ensures in
     (omega (arith, same), tt)
 
-pub rest-returns-in_default-clause-only : goal.rest-returns-in_default-clause-only
-rest-returns-in_default-clause-only t c = rest_no c.args.dots c.args.value (made_no CoversSlot _ c.args.value c.into_inner.ensures _ (none_of _ c.in_default.not-Some) c.in_ok-slot.ensures.only)
+pub objects::rest-returns-in_default-clause-only : goal.objects::rest-returns-in_default-clause-only
+objects::rest-returns-in_default-clause-only t c = rest_no c.args.dots c.args.value (made_no CoversSlot _ c.args.value c.into_inner.ensures _ (none_of _ c.in_default.not-Some) c.in_ok-slot.ensures.only)
 
-pub rest-returns-then-not-is_alone-clause-only : goal.rest-returns-then-not-is_alone-clause-only
-rest-returns-then-not-is_alone-clause-only t c =
+pub objects::rest-returns-then-not-is_alone-clause-only : goal.objects::rest-returns-then-not-is_alone-clause-only
+objects::rest-returns-then-not-is_alone-clause-only t c =
     rest_no_alone c.args.dots c.args.value c.in-Some.slot (made_one CoversSlot _ c.args.value c.into_inner.ensures _ c.in-Some.slot c.in-Some.is c.in_ok-slot.ensures.only) (sym c.is_alone.ensures ∙ c.if-not-is_alone.true)
 
-pub rest-returns-clause-found : goal.rest-returns-clause-found
-rest-returns-clause-found t c =
+pub objects::rest-returns-clause-found : goal.objects::rest-returns-clause-found
+objects::rest-returns-clause-found t c =
     rest_made c.args.dots c.args.value c.in-Some.slot (has_made CoversSlot _ c.args.value c.into_inner.ensures _ c.in-Some.slot c.in-Some.is c.in_ok-slot.ensures.found) (sym c.is_alone.ensures ∙ c.if-not-is_alone.false)
 
-pub rest-returns-clause-only : goal.rest-returns-clause-only
-rest-returns-clause-only t c = rest_one c.args.dots c.args.value c.in-Some.slot (made_one CoversSlot _ c.args.value c.into_inner.ensures _ c.in-Some.slot c.in-Some.is c.in_ok-slot.ensures.only)
+pub objects::rest-returns-clause-only : goal.objects::rest-returns-clause-only
+objects::rest-returns-clause-only t c = rest_one c.args.dots c.args.value c.in-Some.slot (made_one CoversSlot _ c.args.value c.into_inner.ensures _ c.in-Some.slot c.in-Some.is c.in_ok-slot.ensures.only)
 
-pub property-keyed-requires : goal.property-keyed-requires
-property-keyed-requires t c =
+pub objects::property-keyed-requires : goal.objects::property-keyed-requires
+objects::property-keyed-requires t c =
     let n = c.in-Pair in
     let low = pair_high c.args.property n.key n.colon n.value (ap out-Property n.is ∙ value_of.outs-Pair n.key n.colon n.value) in
     (omega (arith, low), tt)
 
-pub property-named-requires : goal.property-named-requires
-property-named-requires t c =
+pub objects::property-named-requires : goal.objects::property-named-requires
+objects::property-named-requires t c =
     let n = c.in-Shorthand in
     let low = shorthand_high c.args.property n.value (ap out-Property n.is ∙ value_of.outs-Shorthand n.value) in
     (omega (arith, low), tt)
 
-pub property-rest-requires : goal.property-rest-requires
-property-rest-requires t c =
+pub objects::property-rest-requires : goal.objects::property-rest-requires
+objects::property-rest-requires t c =
     let n = c.in-Spread in
     let low = spread_high c.args.property n.dots n.value (ap out-Property n.is ∙ value_of.outs-Spread n.dots n.value) in
     (omega (arith, low), tt)
 
-pub property-returns-in-Pair-clause-found : goal.property-returns-in-Pair-clause-found
-property-returns-in-Pair-clause-found t c = subst (λ (x : Property). Makes c.keyed.result (CoversProperty x)) (sym c.in-Pair.is) c.keyed.ensures.found
+pub objects::property-returns-in-Pair-clause-found : goal.objects::property-returns-in-Pair-clause-found
+objects::property-returns-in-Pair-clause-found t c = subst (λ (x : Property). Makes c.keyed.result (CoversProperty x)) (sym c.in-Pair.is) c.keyed.ensures.found
 
-pub property-returns-in-Pair-clause-only : goal.property-returns-in-Pair-clause-only
-property-returns-in-Pair-clause-only t c = subst (λ (x : Property). MakesOnly c.keyed.result (CoversProperty x)) (sym c.in-Pair.is) c.keyed.ensures.only
+pub objects::property-returns-in-Pair-clause-only : goal.objects::property-returns-in-Pair-clause-only
+objects::property-returns-in-Pair-clause-only t c = subst (λ (x : Property). MakesOnly c.keyed.result (CoversProperty x)) (sym c.in-Pair.is) c.keyed.ensures.only
 
-pub property-returns-in-Shorthand-clause-found : goal.property-returns-in-Shorthand-clause-found
-property-returns-in-Shorthand-clause-found t c = subst (λ (x : Property). Makes c.named.result (CoversProperty x)) (sym c.in-Shorthand.is) c.named.ensures.found
+pub objects::property-returns-in-Shorthand-clause-found : goal.objects::property-returns-in-Shorthand-clause-found
+objects::property-returns-in-Shorthand-clause-found t c = subst (λ (x : Property). Makes c.named.result (CoversProperty x)) (sym c.in-Shorthand.is) c.named.ensures.found
 
-pub property-returns-in-Shorthand-clause-only : goal.property-returns-in-Shorthand-clause-only
-property-returns-in-Shorthand-clause-only t c = subst (λ (x : Property). MakesOnly c.named.result (CoversProperty x)) (sym c.in-Shorthand.is) c.named.ensures.only
+pub objects::property-returns-in-Shorthand-clause-only : goal.objects::property-returns-in-Shorthand-clause-only
+objects::property-returns-in-Shorthand-clause-only t c = subst (λ (x : Property). MakesOnly c.named.result (CoversProperty x)) (sym c.in-Shorthand.is) c.named.ensures.only
 
-pub property-returns-in-Spread-clause-found : goal.property-returns-in-Spread-clause-found
-property-returns-in-Spread-clause-found t c = subst (λ (x : Property). Makes c.rest.result (CoversProperty x)) (sym c.in-Spread.is) c.rest.ensures.found
+pub objects::property-returns-in-Spread-clause-found : goal.objects::property-returns-in-Spread-clause-found
+objects::property-returns-in-Spread-clause-found t c = subst (λ (x : Property). Makes c.rest.result (CoversProperty x)) (sym c.in-Spread.is) c.rest.ensures.found
 
-pub property-returns-in-Spread-clause-only : goal.property-returns-in-Spread-clause-only
-property-returns-in-Spread-clause-only t c = subst (λ (x : Property). MakesOnly c.rest.result (CoversProperty x)) (sym c.in-Spread.is) c.rest.ensures.only
+pub objects::property-returns-in-Spread-clause-only : goal.objects::property-returns-in-Spread-clause-only
+objects::property-returns-in-Spread-clause-only t c = subst (λ (x : Property). MakesOnly c.rest.result (CoversProperty x)) (sym c.in-Spread.is) c.rest.ensures.only
 
-pub last_property-property-requires : goal.last_property-property-requires
-last_property-property-requires t c =
+pub objects::last_property-property-requires : goal.objects::last_property-property-requires
+objects::last_property-property-requires t c =
     let same = ap (may_high value_height) c.in-Some.is in
     (omega (arith, same), tt)
 
-pub last_property-returns-in_default-clause-found : goal.last_property-returns-in_default-clause-found
-last_property-returns-in_default-clause-found t c = may_none CoversProperty c.args.last (none_of _ c.in_default.not-Some)
+pub objects::last_property-returns-in_default-clause-found : goal.objects::last_property-returns-in_default-clause-found
+objects::last_property-returns-in_default-clause-found t c = may_none CoversProperty c.args.last (none_of _ c.in_default.not-Some)
 
-pub last_property-returns-in_default-clause-only : goal.last_property-returns-in_default-clause-only
-last_property-returns-in_default-clause-only t c = may_none_one CoversProperty c.args.last (none_of _ c.in_default.not-Some)
+pub objects::last_property-returns-in_default-clause-only : goal.objects::last_property-returns-in_default-clause-only
+objects::last_property-returns-in_default-clause-only t c = may_none_one CoversProperty c.args.last (none_of _ c.in_default.not-Some)
 
-pub last_property-returns-in_default-2-clause-only : goal.last_property-returns-in_default-2-clause-only
-last_property-returns-in_default-2-clause-only t c =
+pub objects::last_property-returns-in_default-2-clause-only : goal.objects::last_property-returns-in_default-2-clause-only
+objects::last_property-returns-in_default-2-clause-only t c =
     may_some_no CoversProperty c.args.last c.in-Some.item c.in-Some.is (made_no CoversProperty _ _ refl _ (none_of _ c.in_default-2.not-Some) c.in_ok-item.ensures.only)
 
-pub last_property-returns-clause-found : goal.last_property-returns-clause-found
-last_property-returns-clause-found t c =
+pub objects::last_property-returns-clause-found : goal.objects::last_property-returns-clause-found
+objects::last_property-returns-clause-found t c =
     may_some CoversProperty c.args.last c.in-Some.item c.in-Some-2.item c.in-Some.is (has_made CoversProperty _ _ refl _ c.in-Some-2.item c.in-Some-2.is c.in_ok-item.ensures.found)
 
-pub last_property-returns-clause-only : goal.last_property-returns-clause-only
-last_property-returns-clause-only t c =
+pub objects::last_property-returns-clause-only : goal.objects::last_property-returns-clause-only
+objects::last_property-returns-clause-only t c =
     may_some_one CoversProperty c.args.last c.in-Some.item c.in-Some-2.item c.in-Some.is (made_one CoversProperty _ _ refl _ c.in-Some-2.item c.in-Some-2.is c.in_ok-item.ensures.only)
 
-pub front_properties-loop-listed-init : goal.front_properties-loop-listed-init
-front_properties-loop-listed-init t c =
+pub objects::front_properties-loop-listed-init : goal.objects::front_properties-loop-listed-init
+objects::front_properties-loop-listed-init t c =
     let e = c.in_ok-left.ensures {u = tt} in
     record {
       halfway = loop_start CoversProperty c.args.front _ _ e c.new-properties.ensures;
       low = start_low value_height c.args.front _ e;
     }
 
-pub front_properties-property-requires : goal.front_properties-property-requires
-front_properties-property-requires t c =
+pub objects::front_properties-property-requires : goal.objects::front_properties-property-requires
+objects::front_properties-property-requires t c =
     let low = next_low value_height _ c.loop-listed.left _ c.in-Some.listed c.in-Some.ensures c.loop-listed.invariant.low in
     (omega (arith, low), tt)
 
-pub front_properties-returns-in_default-clause-only : goal.front_properties-returns-in_default-clause-only
-front_properties-returns-in_default-clause-only t c =
+pub objects::front_properties-returns-in_default-clause-only : goal.objects::front_properties-returns-in_default-clause-only
+objects::front_properties-returns-in_default-clause-only t c =
     loop_none CoversProperty c.args.front c.loop-listed.left _ c.loop-listed.properties c.in-Some.listed c.in-Some.ensures c.loop-listed.invariant.halfway
     (made_no CoversProperty _ _ refl _ (none_of _ c.in_default.not-Some) c.in_ok-item.ensures.only)
 
-pub front_properties-loop-listed-smaller : goal.front_properties-loop-listed-smaller
-front_properties-loop-listed-smaller t c = taken_shorter _ _ c.in-Some.listed c.in-Some.ensures
+pub objects::front_properties-loop-listed-smaller : goal.objects::front_properties-loop-listed-smaller
+objects::front_properties-loop-listed-smaller t c = taken_shorter _ _ c.in-Some.listed c.in-Some.ensures
 
-pub front_properties-loop-listed-preserved : goal.front_properties-loop-listed-preserved
-front_properties-loop-listed-preserved t c = record {
+pub objects::front_properties-loop-listed-preserved : goal.objects::front_properties-loop-listed-preserved
+objects::front_properties-loop-listed-preserved t c = record {
   halfway = loop_next CoversProperty c.args.front c.loop-listed.left _ c.loop-listed.properties _ c.in-Some.listed c.in-Some-2.item c.in-Some.ensures c.in_ok-push.ensures.ok c.loop-listed.invariant.halfway
       (has_made CoversProperty _ _ refl _ c.in-Some-2.item c.in-Some-2.is c.in_ok-item.ensures.found) (made_one CoversProperty _ _ refl _ c.in-Some-2.item c.in-Some-2.is c.in_ok-item.ensures.only);
   low = rest_low value_height _ c.loop-listed.left _ c.in-Some.listed c.in-Some.ensures c.loop-listed.invariant.low;
 }
 
-pub front_properties-returns-clause-found : goal.front_properties-returns-clause-found
-front_properties-returns-clause-found t c = loop_found CoversProperty c.args.front c.loop-listed.left c.loop-listed.properties c.in-None.ensures.0 c.loop-listed.invariant.halfway
+pub objects::front_properties-returns-clause-found : goal.objects::front_properties-returns-clause-found
+objects::front_properties-returns-clause-found t c = loop_found CoversProperty c.args.front c.loop-listed.left c.loop-listed.properties (c.in_default.ensures {u = tt}).0 c.loop-listed.invariant.halfway
 
-pub front_properties-returns-clause-only : goal.front_properties-returns-clause-only
-front_properties-returns-clause-only t c = loop_only CoversProperty c.args.front c.loop-listed.left c.loop-listed.properties c.in-None.ensures.0 c.loop-listed.invariant.halfway
+pub objects::front_properties-returns-clause-only : goal.objects::front_properties-returns-clause-only
+objects::front_properties-returns-clause-only t c = loop_only CoversProperty c.args.front c.loop-listed.left c.loop-listed.properties (c.in_default.ensures {u = tt}).0 c.loop-listed.invariant.halfway
 
 -- OBJECTS
 
-pub object_properties-front_properties-requires : goal.object_properties-front_properties-requires
-object_properties-front_properties-requires t c = (omega arith, tt)
+pub objects::object_properties-front_properties-requires : goal.objects::object_properties-front_properties-requires
+objects::object_properties-front_properties-requires t c = (omega arith, tt)
 
-pub object_properties-last_property-requires : goal.object_properties-last_property-requires
-object_properties-last_property-requires t c = (omega arith, tt)
+pub objects::object_properties-last_property-requires : goal.objects::object_properties-last_property-requires
+objects::object_properties-last_property-requires t c = (omega arith, tt)
 
-pub object_properties-returns-in_default-clause-only : goal.object_properties-returns-in_default-clause-only
-object_properties-returns-in_default-clause-only t c =
+pub objects::object_properties-returns-in_default-clause-only : goal.objects::object_properties-returns-in_default-clause-only
+objects::object_properties-returns-in_default-clause-only t c =
     bracket_no_front CoversProperty c.args.properties (made_no (EachPair CoversProperty) _ _ refl _ (none_of _ c.in_default.not-Some) c.in_ok-front.ensures.only)
 
-pub object_properties-returns-in_default-2-clause-only : goal.object_properties-returns-in_default-2-clause-only
-object_properties-returns-in_default-2-clause-only t c =
+pub objects::object_properties-returns-in_default-2-clause-only : goal.objects::object_properties-returns-in_default-2-clause-only
+objects::object_properties-returns-in_default-2-clause-only t c =
     bracket_no_last CoversProperty c.args.properties (made_no (MayPair CoversProperty) _ _ refl _ (none_of _ c.in_default-2.not-Some) c.in_ok-last.ensures.only)
 
-pub object_properties-returns-clause-found : goal.object_properties-returns-clause-found
-object_properties-returns-clause-found t c =
+pub objects::object_properties-returns-clause-found : goal.objects::object_properties-returns-clause-found
+objects::object_properties-returns-clause-found t c =
     bracket_of CoversProperty c.args.properties c.in-Some.front c.in-Some-2.last (has_made (EachPair CoversProperty) _ _ refl _ c.in-Some.front c.in-Some.is c.in_ok-front.ensures.found)
     (has_made (MayPair CoversProperty) _ _ refl _ c.in-Some-2.last c.in-Some-2.is c.in_ok-last.ensures.found)
 
-pub object_properties-returns-clause-only : goal.object_properties-returns-clause-only
-object_properties-returns-clause-only t c =
+pub objects::object_properties-returns-clause-only : goal.objects::object_properties-returns-clause-only
+objects::object_properties-returns-clause-only t c =
     bracket_one CoversProperty c.args.properties c.in-Some.front c.in-Some-2.last (made_one (EachPair CoversProperty) _ _ refl _ c.in-Some.front c.in-Some.is c.in_ok-front.ensures.only)
     (made_one (MayPair CoversProperty) _ _ refl _ c.in-Some-2.last c.in-Some-2.is c.in_ok-last.ensures.only)
 
-pub object_pattern-object_properties-requires : goal.object_pattern-object_properties-requires
-object_pattern-object_properties-requires t c =
+pub objects::object_pattern-object_properties-requires : goal.objects::object_pattern-object_properties-requires
+objects::object_pattern-object_properties-requires t c =
     let same = ap (bracket_high value_height) c.into_inner.ensures in
     (omega (arith, same), tt)
 
-pub object_pattern-returns-in_default-clause-only : goal.object_pattern-returns-in_default-clause-only
-object_pattern-returns-in_default-clause-only t c =
+pub objects::object_pattern-returns-in_default-clause-only : goal.objects::object_pattern-returns-in_default-clause-only
+objects::object_pattern-returns-in_default-clause-only t c =
     object_no c.args.properties (made_no (InPairs CoversProperty) _ c.args.properties c.into_inner.ensures _ (none_of _ c.in_default.not-Some) c.in_ok-properties.ensures.only)
 
-pub object_pattern-returns-then-not-have_no_rest-clause-only : goal.object_pattern-returns-then-not-have_no_rest-clause-only
-object_pattern-returns-then-not-have_no_rest-clause-only t c =
+pub objects::object_pattern-returns-then-not-have_no_rest-clause-only : goal.objects::object_pattern-returns-then-not-have_no_rest-clause-only
+objects::object_pattern-returns-then-not-have_no_rest-clause-only t c =
     object_no_end c.args.properties c.in-Some.properties (made_one (InPairs CoversProperty) _ c.args.properties c.into_inner.ensures _ c.in-Some.properties c.in-Some.is c.in_ok-properties.ensures.only)
     (ap (list_all (λ (x : Listed PatternProperty). is_no_rest (out-PatternProperty x.item))) (sym c.as_slice.ensures) ∙ sym c.have_no_rest.ensures ∙ c.if-not-have_no_rest.true)
 
-pub object_pattern-returns-clause-found : goal.object_pattern-returns-clause-found
-object_pattern-returns-clause-found t c =
+pub objects::object_pattern-returns-clause-found : goal.objects::object_pattern-returns-clause-found
+objects::object_pattern-returns-clause-found t c =
     object_made c.args.properties c.in-Some.properties _ c.in_ok-new.ensures
     (has_made (InPairs CoversProperty) _ c.args.properties c.into_inner.ensures _ c.in-Some.properties c.in-Some.is c.in_ok-properties.ensures.found)
     (ap (list_all (λ (x : Listed PatternProperty). is_no_rest (out-PatternProperty x.item))) (sym c.as_slice.ensures) ∙ sym c.have_no_rest.ensures ∙ c.if-not-have_no_rest.false)
 
-pub object_pattern-returns-clause-only : goal.object_pattern-returns-clause-only
-object_pattern-returns-clause-only t c =
+pub objects::object_pattern-returns-clause-only : goal.objects::object_pattern-returns-clause-only
+objects::object_pattern-returns-clause-only t c =
     object_one c.args.properties c.in-Some.properties _ c.in_ok-new.ensures
     (made_one (InPairs CoversProperty) _ c.args.properties c.into_inner.ensures _ c.in-Some.properties c.in-Some.is c.in_ok-properties.ensures.only)

@@ -22,7 +22,7 @@ loop-listed-preserved c =
     (has_made (ElementPair CoversSlot) _ _ refl _ c.in-Some-2.item c.in-Some-2.is c.in_ok-item.ensures.found) (made_one (ElementPair CoversSlot) _ _ refl _ c.in-Some-2.item c.in-Some-2.is c.in_ok-item.ensures.only)
 
 pub returns-clause-found : goal.returns-clause-found
-returns-clause-found c = loop_found (ElementPair CoversSlot) c.args.front c.loop-listed.left c.loop-listed.slots c.in-None.ensures.0 c.loop-listed.invariant
+returns-clause-found c = loop_found (ElementPair CoversSlot) c.args.front c.loop-listed.left c.loop-listed.slots (c.in_default.ensures {u = tt}).0 c.loop-listed.invariant
 
 pub returns-clause-only : goal.returns-clause-only
-returns-clause-only c = loop_only (ElementPair CoversSlot) c.args.front c.loop-listed.left c.loop-listed.slots c.in-None.ensures.0 c.loop-listed.invariant
+returns-clause-only c = loop_only (ElementPair CoversSlot) c.args.front c.loop-listed.left c.loop-listed.slots (c.in_default.ensures {u = tt}).0 c.loop-listed.invariant

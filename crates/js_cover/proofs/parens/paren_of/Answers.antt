@@ -21,21 +21,21 @@ returns-then-not-are_plain-clause-only c =
 
 pub returns-then-is_empty-clause-found : goal.returns-then-is_empty-clause-found
 returns-then-is_empty-clause-found c =
-    let s = c.in_ok-sequence_of.ensures {u = tt} in
+    let s = c.in_ok-first.ensures {u = tt} in
     one_round c.args.items c.in-Some.last c.in-Some.is _ _ s.first s.others (ap not (sym c.is_some.ensures ∙ c.if-is_some.false)) (c.is_empty.ensures.0 c.if-is_empty.true) c.args.highest c.requires.highest c.args.is_target c.requires.target
 
 pub returns-then-is_empty-clause-only : goal.returns-then-is_empty-clause-only
 returns-then-is_empty-clause-only c =
-    let s = c.in_ok-sequence_of.ensures {u = tt} in
+    let s = c.in_ok-first.ensures {u = tt} in
     one_only c.args.items c.in-Some.last c.in-Some.is _ _ s.first s.others (c.is_empty.ensures.0 c.if-is_empty.true)
 
 pub returns-clause-found : goal.returns-clause-found
 returns-clause-found c =
-    let s = c.in_ok-sequence_of.ensures {u = tt} in
+    let s = c.in_ok-first.ensures {u = tt} in
     several_round c.args.items c.in-Some.last c.in-Some.is _ _ s.first s.others _ c.in_ok-inner.ensures (ap not (sym c.is_some.ensures ∙ c.if-is_some.false))
     (ap (list_all (λ (y : Listed (Element Expr)). is_plain y.item)) (sym c.as_slice.ensures) ∙ sym c.are_plain.ensures ∙ c.if-not-are_plain.false) (λ e. false≢true (sym c.if-is_empty.false ∙ c.is_empty.ensures.1 e)) c.args.highest c.requires.highest
 
 pub returns-clause-only : goal.returns-clause-only
 returns-clause-only c =
-    let s = c.in_ok-sequence_of.ensures {u = tt} in
+    let s = c.in_ok-first.ensures {u = tt} in
     several_only c.args.items c.in-Some.last c.in-Some.is _ _ s.first s.others _ c.in_ok-inner.ensures (λ e. false≢true (sym c.if-is_empty.false ∙ c.is_empty.ensures.1 e))

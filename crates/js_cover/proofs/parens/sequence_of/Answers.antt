@@ -23,6 +23,6 @@ loop-listed-preserved c = record {
 
 pub returns : goal.returns
 returns c = record {
-  first = ap (λ xs. first_of xs c.loop-listed.first) (sym c.in-None.ensures.0) ∙ c.loop-listed.invariant.first;
-  others = c.in_ok-others.ensures {u = tt} ∙ ap (λ xs. others_of xs c.loop-listed.first ++ reverse c.loop-listed.others) (sym c.in-None.ensures.0) ∙ c.loop-listed.invariant.others;
+  first = ap (λ xs. first_of xs c.loop-listed.first) (sym (c.in_default.ensures {u = tt}).0) ∙ c.loop-listed.invariant.first;
+  others = c.in_ok-others.ensures {u = tt} ∙ ap (λ xs. others_of xs c.loop-listed.first ++ reverse c.loop-listed.others) (sym (c.in_default.ensures {u = tt}).0) ∙ c.loop-listed.invariant.others;
 }

@@ -12,4 +12,4 @@ pub loop-item-preserved : goal.loop-item-preserved
 loop-item-preserved g c = reversed_step _ _ c.loop-item.all _ c.in-Some.item c.in-Some.ensures c.in_ok-push.ensures.ok ∙ c.loop-item.invariant
 
 pub returns : goal.returns
-returns g c = sym (append-nil c.loop-item.all) ∙ ap (λ xs. c.loop-item.all ++ reverse xs) (sym c.in-None.ensures.0) ∙ c.loop-item.invariant
+returns g c = sym (append-nil c.loop-item.all) ∙ ap (λ xs. c.loop-item.all ++ reverse xs) (sym (c.in_default.ensures {u = tt}).0) ∙ c.loop-item.invariant
