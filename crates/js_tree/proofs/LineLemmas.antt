@@ -14,10 +14,12 @@ use Rattle.js_tree.specs.declared.tree.PatternProperty.{out-PatternProperty}
 use Rattle.js_tree.specs.declared.tree.Property.{out-Property}
 use Rattle.js_tree.specs.declared.tree.Slot.{out-Slot}
 use Rattle.js_tree.specs.declared.tree.Stmt.{Stmt, out-Stmt}
+use Rattle.js_tree.specs.declared.tree.StmtClause.{StmtClause, out-StmtClause}
 use Rattle.js_tree.specs.Line.{LineItem, AToken, ANode, items, possible, line_of, spelling_of, tokens_in, tokens_at, work_for}
-use Rattle.js_tree.specs.Parts.{Node, NodeWriter, AnExpr, AFunction, AKey, APattern, APatternProperty, AProperty, AStmt, ASlot, ATail, ABody, ACases, AHandler, each_tail, nodes, tails_behind, parts, count, left_in}
+use Rattle.js_tree.specs.Parts.{Node, NodeWriter, AnExpr, AFunction, AKey, APattern, APatternProperty, AProperty, AStmt, AClause, ASlot, ATail, ABody, ACases, each_tail, nodes, tails_behind, parts, count, left_in}
 use Rattle.js_tree.specs.Pieces.{Piece, Tok, tokens}
-use Rattle.js_tree.specs.Spelling.{expr, pattern, stmt, stmts}
+use Rattle.js_tree.specs.Spelling.{expr, stmt, clause, stmts}
+use Rattle.js_tree.specs.Spelling.Clauses.{clause_musts, clause_row}
 use Rattle.js_tree.specs.Spelling.Expressions.{expr_musts, expr_row}
 use Rattle.js_tree.specs.Spelling.Functions.{function_musts, function_row}
 use Rattle.js_tree.specs.declared.tree.Expr.TheOpen.{Stmt-F}
@@ -28,9 +30,9 @@ use Rattle.js_tree.specs.Spelling.Rows.{each_of, maybe, tail_row}
 use Rattle.js_tree.proofs.Folds.{map_tail}
 use Rattle.js_tree.proofs.GatherLemmas.{along_parts}
 use Rattle.js_tree.proofs.PartLemmas.{Any, all_any, count_is}
-use Rattle.js_tree.proofs.RowLemmas.{each_map, tail_map, cases_map, handler_map}
-use Rattle.js_tree.proofs.RowPairs.{Keeps, expr_keeps, function_keeps, key_keeps, pattern_keeps, pattern_property_keeps, property_keeps, stmt_keeps, slot_keeps, tail_keeps, body_keeps, cases_keeps, handler_keeps}
-use Rattle.js_tree.proofs.SpellingLemmas.{expr_line, function_line, key_line, pattern_line, pattern_property_line, property_line, stmt_line, slot_line, seen_lines, expr_layer, function_layer, stmt_layer}
+use Rattle.js_tree.proofs.RowLemmas.{each_map, tail_map}
+use Rattle.js_tree.proofs.RowPairs.{Keeps, expr_keeps, function_keeps, key_keeps, pattern_keeps, pattern_property_keeps, property_keeps, stmt_keeps, clause_keeps, slot_keeps, tail_keeps, body_keeps, cases_keeps}
+use Rattle.js_tree.proofs.SpellingLemmas.{expr_line, function_line, key_line, pattern_line, pattern_property_line, property_line, stmt_line, clause_line, slot_line, seen_lines, expr_layer, function_layer, stmt_layer, clause_layer}
 use Rattle.js_tree.proofs.WalkLemmas.{left_more, sum_more, sum_mapped}
 
 -- TOKENS
@@ -106,11 +108,11 @@ module _ (ts : List Token) where
     pattern_property = λ x r s h e. h r ∙ ap (λ us. tokens_in (APatternProperty x) ++ us) e;
     property = λ x r s h e. h r ∙ ap (λ us. tokens_in (AProperty x) ++ us) e;
     stmt = λ x r s h e. h r ∙ ap (λ us. tokens_in (AStmt x) ++ us) e;
+    clause = λ x r s h e. h r ∙ ap (λ us. tokens_in (AClause x) ++ us) e;
     slot = λ x r s h e. h r ∙ ap (λ us. tokens_in (ASlot x) ++ us) e;
     tails = λ head us ns r s h k. tails_alike head [] us ns r s h k;
     body = λ xs r s h e. ap tokens (each_map seen_line stmt xs r) ∙ h r ∙ ap (λ us. tokens_in (ABody xs) ++ us) e;
-    cases = λ xs r s h e. ap tokens (cases_map pieces seen_line seen_line expr stmt xs r) ∙ h r ∙ ap (λ us. tokens_in (ACases xs) ++ us) e;
-    handler = λ x r s h e. ap tokens (handler_map pieces seen_line seen_line pattern stmt x r) ∙ h r ∙ ap (λ us. tokens_in (AHandler x) ++ us) e;
+    cases = λ xs r s h e. ap tokens (each_map seen_line clause xs r) ∙ h r ∙ ap (λ us. tokens_in (ACases xs) ++ us) e;
   }
 
 abbrev L : NodeWriter (List Piece)
@@ -130,11 +132,13 @@ node_spelled (AStmt x) each rest =
     let behind : List Piece = stmt_behind (stmt_layer (out-Stmt x)) rest in
     ap tokens (stmt_line x rest) ∙ tokens-musts (stmt_musts (stmt_layer (out-Stmt x))) (stmt_row L (out-Stmt x) behind)
     ∙ stmt_keeps L items Puts (Alike (tokens rest)) (alike (tokens rest)) (out-Stmt x) behind [] each (behind-tokens (stmt_layer (out-Stmt x)) rest)
+node_spelled (AClause x) each rest =
+    ap tokens (clause_line x rest) ∙ tokens-musts (clause_musts (clause_layer (out-StmtClause x))) (clause_row L (out-StmtClause x) rest)
+    ∙ clause_keeps L items Puts (Alike (tokens rest)) (alike (tokens rest)) (out-StmtClause x) rest [] each refl
 node_spelled (ASlot x) each rest = ap tokens (slot_line x rest) ∙ slot_keeps L items Puts (Alike (tokens rest)) (alike (tokens rest)) (out-Slot x) rest [] each refl
 node_spelled (ATail head before t) each rest = tail_keeps L items Puts (Alike (tokens rest)) (alike (tokens rest)) t rest [] each refl
 node_spelled (ABody body) each rest = body_keeps L items Puts (Alike (tokens rest)) (alike (tokens rest)) body rest [] each refl
 node_spelled (ACases xs) each rest = cases_keeps L items Puts (Alike (tokens rest)) (alike (tokens rest)) xs rest [] each refl
-node_spelled (AHandler x) each rest = handler_keeps L items Puts (Alike (tokens rest)) (alike (tokens rest)) x rest [] each refl
 
 line_tokens : (n : Node) → AllByRecursion Puts (parts n) → tokens_in n ≡ flat_map tokens_at (line_of n)
 unfolding tokens_in
@@ -182,11 +186,11 @@ have_nodes = record {
   pattern_property = λ x r s h e. ap (λ ms. APatternProperty x ∷ ms) e;
   property = λ x r s h e. ap (λ ms. AProperty x ∷ ms) e;
   stmt = λ x r s h e. ap (λ ms. AStmt x ∷ ms) e;
+  clause = λ x r s h e. ap (λ ms. AClause x ∷ ms) e;
   slot = λ x r s h e. ap (λ ms. ASlot x ∷ ms) e;
   tails = λ head us ns r s h k. tails_have head [] us r s (k (all_any ns));
   body = λ xs r s h e. ap (λ ms. ABody xs ∷ ms) e;
   cases = λ xs r s h e. ap (λ ms. ACases xs ∷ ms) e;
-  handler = λ x r s h e. ap (λ ms. AHandler x ∷ ms) e;
 }
 
 -- the nodes in the line of a node are its parts
@@ -198,11 +202,11 @@ line_nodes (APattern x) = pattern_keeps items nodes Any HasNodes have_nodes (out
 line_nodes (APatternProperty x) = pattern_property_keeps items nodes Any HasNodes have_nodes (out-PatternProperty x) [] [] (all_any (parts (APatternProperty x))) refl
 line_nodes (AProperty x) = property_keeps items nodes Any HasNodes have_nodes (out-Property x) [] [] (all_any (parts (AProperty x))) refl
 line_nodes (AStmt x) = stmt_keeps items nodes Any HasNodes have_nodes (out-Stmt x) [] [] (all_any (parts (AStmt x))) refl
+line_nodes (AClause x) = clause_keeps items nodes Any HasNodes have_nodes (out-StmtClause x) [] [] (all_any (parts (AClause x))) refl
 line_nodes (ASlot x) = slot_keeps items nodes Any HasNodes have_nodes (out-Slot x) [] [] (all_any (parts (ASlot x))) refl
 line_nodes (ATail head before t) = tail_keeps items nodes Any HasNodes have_nodes t [] [] (all_any (parts (ATail head before t))) refl
 line_nodes (ABody body) = body_keeps items nodes Any HasNodes have_nodes body [] [] (all_any (parts (ABody body))) refl
 line_nodes (ACases xs) = cases_keeps items nodes Any HasNodes have_nodes xs [] [] (all_any (parts (ACases xs))) refl
-line_nodes (AHandler x) = handler_keeps items nodes Any HasNodes have_nodes x [] [] (all_any (parts (AHandler x))) refl
 
 work_is : (ps : List LineItem) → sum_by work_for ps ≡ length (flat_map tokens_at ps) + sum_by count (nodes_in ps)
 work_is [] = refl

@@ -2,8 +2,6 @@
 use Rattle.std.proofs.Common.{◌≡◌, ℕ, zero, suc, ◌-◌, ◌<◌, ◌≤◌, max, List, [], ◌∷◌, ◌++◌, map, sum, refl, ap, ◌∙◌, append-nil, arith, Option, Some, None}
 use Rattle.std.specs.List.{AllByRecursion, flat_map}
 use Rattle.std.proofs.lemmas.List.Folds.{flat_map-map}
-use Rattle.js_tree.specs.declared.lists.Case.{Case}
-use Rattle.js_tree.specs.declared.lists.Handler.{Handler}
 use Rattle.js_tree.specs.declared.lists.Tail.{Tail}
 use Rattle.js_tree.specs.declared.tree.Expr.{Expr, out-Expr, fold_out-Expr}
 use Rattle.js_tree.specs.declared.tree.Function.{Function, out-Function, fold_out-Function}
@@ -13,13 +11,14 @@ use Rattle.js_tree.specs.declared.tree.PatternProperty.{PatternProperty, out-Pat
 use Rattle.js_tree.specs.declared.tree.Property.{Property, out-Property, fold_out-Property}
 use Rattle.js_tree.specs.declared.tree.Slot.{Slot, out-Slot, fold_out-Slot}
 use Rattle.js_tree.specs.declared.tree.Stmt.{Stmt, out-Stmt, fold_out-Stmt}
-use Rattle.js_tree.specs.Folds.{fold_expr, fold_function, fold_key, fold_pattern, fold_pattern_property, fold_property, fold_stmt, fold_slot, fold_views}
-use Rattle.js_tree.specs.Parts.{Node, AnExpr, AFunction, AKey, APattern, APatternProperty, AProperty, AStmt, ASlot, ATail, ABody, ACases, AHandler, NodeWriter, nodes, tails_behind, parts, greatest, heights, above_expr, above_pattern, above_stmt, height, folded_to, folded, count, unless_passed, gathered}
+use Rattle.js_tree.specs.declared.tree.StmtClause.{StmtClause, out-StmtClause, fold_out-StmtClause}
+use Rattle.js_tree.specs.Folds.{fold_expr, fold_function, fold_key, fold_pattern, fold_pattern_property, fold_property, fold_stmt, fold_clause, fold_slot, fold_views}
+use Rattle.js_tree.specs.Parts.{Node, AnExpr, AFunction, AKey, APattern, APatternProperty, AProperty, AStmt, AClause, ASlot, ATail, ABody, ACases, NodeWriter, nodes, tails_behind, parts, greatest, heights, above_expr, above_stmt, above_clause, height, folded_to, folded, count, unless_passed, gathered}
 use Rattle.js_tree.specs.Spelling.{tallest_of}
-use Rattle.js_tree.specs.Spelling.Rows.{each_of, tail_row, case_row, handler_row}
+use Rattle.js_tree.specs.Spelling.Rows.{each_of, tail_row}
 use Rattle.js_tree.specs.Spelling.Nodes.{unmarked}
-use Rattle.js_tree.proofs.RowLemmas.{over, each_map, tails_map, cases_map, handler_map, expr_over, function_over, key_over, pattern_over, pattern_property_over, property_over, stmt_over, slot_over}
-use Rattle.js_tree.proofs.RowPairs.{Keeps, expr_keeps, function_keeps, key_keeps, pattern_keeps, pattern_property_keeps, property_keeps, stmt_keeps, slot_keeps, tail_keeps, body_keeps, cases_keeps, handler_keeps}
+use Rattle.js_tree.proofs.RowLemmas.{over, each_map, tails_map, expr_over, function_over, key_over, pattern_over, pattern_property_over, property_over, stmt_over, clause_over, slot_over}
+use Rattle.js_tree.proofs.RowPairs.{Keeps, expr_keeps, function_keeps, key_keeps, pattern_keeps, pattern_property_keeps, property_keeps, stmt_keeps, clause_keeps, slot_keeps, tail_keeps, body_keeps, cases_keeps}
 
 pub map_again : {A B C : Type 0} (g : B → C) (f : A → B) (xs : List A) → map (λ x. g (f x)) xs ≡ map g (map f xs)
 map_again g f [] = refl
@@ -67,6 +66,10 @@ is_stmt : (x : Stmt) → height (AStmt x) ≡ fold_stmt heights x
 unfolding height
 is_stmt x = refl
 
+is_clause : (x : StmtClause) → height (AClause x) ≡ fold_clause heights x
+unfolding height
+is_clause x = refl
+
 is_slot : (x : Slot) → height (ASlot x) ≡ fold_slot heights x
 unfolding height
 is_slot x = refl
@@ -79,13 +82,9 @@ is_body : (body : List Stmt) → height (ABody body) ≡ suc (each_of above_stmt
 unfolding height
 is_body body = refl
 
-is_cases : (xs : List (Case Expr Stmt)) → height (ACases xs) ≡ suc (each_of (case_row unmarked above_expr above_stmt) xs 0)
+is_cases : (xs : List StmtClause) → height (ACases xs) ≡ suc (each_of above_clause xs 0)
 unfolding height
 is_cases xs = refl
-
-is_handler : (x : Handler Pattern Stmt) → height (AHandler x) ≡ suc (handler_row unmarked above_pattern above_stmt x 0)
-unfolding height
-is_handler x = refl
 
 -- rows without the nodes that are made up for several
 abbrev plain : NodeWriter ℕ
@@ -94,19 +93,19 @@ plain = record {
   expr = above_expr;
   function = λ x h. max (fold_function heights x) h;
   key = λ x h. max (fold_key heights x) h;
-  pattern = above_pattern;
+  pattern = λ x h. max (fold_pattern heights x) h;
   pattern_property = λ x h. max (fold_pattern_property heights x) h;
   property = λ x h. max (fold_property heights x) h;
   stmt = above_stmt;
+  clause = above_clause;
   slot = λ x h. max (fold_slot heights x) h;
   tails = λ head ts h. h;
   body = λ xs h. h;
   cases = λ xs h. h;
-  handler = λ x h. h;
 }
 
 abbrev plain_nodes : NodeWriter (List Node)
-plain_nodes = record nodes { tails = λ head ts ns. ns; body = λ xs ns. ns; cases = λ xs ns. ns; handler = λ x ns. ns }
+plain_nodes = record nodes { tails = λ head ts ns. ns; body = λ xs ns. ns; cases = λ xs ns. ns }
 
 plain_keeps : Keeps plain plain_nodes Any (λ h ns. highest ns ≤ h)
 plain_keeps = record {
@@ -120,11 +119,11 @@ plain_keeps = record {
   pattern_property = λ x r s h e. (let a = is_pattern_property x in omega (arith, a, e));
   property = λ x r s h e. (let a = is_property x in omega (arith, a, e));
   stmt = λ x r s h e. (let a = is_stmt x in omega (arith, a, e));
+  clause = λ x r s h e. (let a = is_clause x in omega (arith, a, e));
   slot = λ x r s h e. (let a = is_slot x in omega (arith, a, e));
   tails = λ head ts ns r s h k. k (all_any ns);
   body = λ xs r s h e. e;
   cases = λ xs r s h e. e;
-  handler = λ x r s h e. e;
 }
 
 module _ (m : ℕ) where
@@ -143,11 +142,11 @@ module _ (m : ℕ) where
     pattern_property = λ x r s h e. (let a = e.0 in let b = e.1 in (omega (arith, a), omega (arith, b)));
     property = λ x r s h e. (let a = e.0 in let b = e.1 in (omega (arith, a), omega (arith, b)));
     stmt = λ x r s h e. (let a = e.0 in let b = e.1 in (omega (arith, a), omega (arith, b)));
+    clause = λ x r s h e. (let a = e.0 in let b = e.1 in (omega (arith, a), omega (arith, b)));
     slot = λ x r s h e. (let a = e.0 in let b = e.1 in (omega (arith, a), omega (arith, b)));
     tails = λ head ts ns r s h k. k (all_any ns);
     body = λ xs r s h e. e;
     cases = λ xs r s h e. e;
-    handler = λ x r s h e. e;
   }
 
   grown : (t : Tail Expr) → Grows (tail_row unmarked above_expr t 0) (tail_row unmarked above_expr t m)
@@ -156,11 +155,8 @@ module _ (m : ℕ) where
   grown_body : (xs : List Stmt) → Grows (each_of above_stmt xs 0) (each_of above_stmt xs m)
   grown_body xs = body_keeps plain plain Any Grows grows xs 0 m (all_any (each_of nodes.stmt xs [])) (omega arith, omega arith)
 
-  grown_cases : (xs : List (Case Expr Stmt)) → Grows (each_of (case_row unmarked above_expr above_stmt) xs 0) (each_of (case_row unmarked above_expr above_stmt) xs m)
-  grown_cases xs = cases_keeps plain plain Any Grows grows xs 0 m (all_any (each_of (case_row unmarked nodes.expr nodes.stmt) xs [])) (omega arith, omega arith)
-
-  grown_handler : (x : Handler Pattern Stmt) → Grows (handler_row unmarked above_pattern above_stmt x 0) (handler_row unmarked above_pattern above_stmt x m)
-  grown_handler x = handler_keeps plain plain Any Grows grows x 0 m (all_any (handler_row unmarked nodes.pattern nodes.stmt x [])) (omega arith, omega arith)
+  grown_cases : (xs : List StmtClause) → Grows (each_of above_clause xs 0) (each_of above_clause xs m)
+  grown_cases xs = cases_keeps plain plain Any Grows grows xs 0 m (all_any (each_of nodes.clause xs [])) (omega arith, omega arith)
 
 tails_above : (head : Expr) (before ts : List (Tail Expr)) (r : ℕ) (s : List Node) → highest s ≤ suc r → highest (tails_behind head before ts s) ≤ suc (each_of (tail_row unmarked above_expr) ts r)
 tails_above head before [] r s e = e
@@ -178,13 +174,8 @@ above = over greatest (fold_views heights)
 body_above : (xs : List Stmt) (r : ℕ) (s : List Node) → highest s ≤ suc r → highest (ABody xs ∷ s) ≤ suc (above.body xs r)
 body_above xs r s e = let a = is_body xs in let b = (grown_body r xs).0 in let c = (grown_body r xs).1 in let d = each_map max (fold_stmt heights) xs r in omega (arith, a, b, c, d, e)
 
-cases_above : (xs : List (Case Expr Stmt)) (r : ℕ) (s : List Node) → highest s ≤ suc r → highest (ACases xs ∷ s) ≤ suc (above.cases xs r)
-cases_above xs r s e =
-    let a = is_cases xs in let b = (grown_cases r xs).0 in let c = (grown_cases r xs).1 in let d = cases_map unmarked max max (fold_expr heights) (fold_stmt heights) xs r in omega (arith, a, b, c, d, e)
-
-handler_above : (x : Handler Pattern Stmt) (r : ℕ) (s : List Node) → highest s ≤ suc r → highest (AHandler x ∷ s) ≤ suc (above.handler x r)
-handler_above x r s e =
-    let a = is_handler x in let b = (grown_handler r x).0 in let c = (grown_handler r x).1 in let d = handler_map unmarked max max (fold_pattern heights) (fold_stmt heights) x r in omega (arith, a, b, c, d, e)
+cases_above : (xs : List StmtClause) (r : ℕ) (s : List Node) → highest s ≤ suc r → highest (ACases xs ∷ s) ≤ suc (above.cases xs r)
+cases_above xs r s e = let a = is_cases xs in let b = (grown_cases r xs).0 in let c = (grown_cases r xs).1 in let d = each_map max (fold_clause heights) xs r in omega (arith, a, b, c, d, e)
 
 -- the nodes in a row are no higher than it, with room for one between them
 above_keeps : Keeps above nodes Any (λ h ns. highest ns ≤ suc h)
@@ -199,11 +190,11 @@ above_keeps = record {
   pattern_property = λ x r s h e. (let a = is_pattern_property x in omega (arith, a, e));
   property = λ x r s h e. (let a = is_property x in omega (arith, a, e));
   stmt = λ x r s h e. (let a = is_stmt x in omega (arith, a, e));
+  clause = λ x r s h e. (let a = is_clause x in omega (arith, a, e));
   slot = λ x r s h e. (let a = is_slot x in omega (arith, a, e));
   tails = λ head ts ns r s h k. (let a = tails_above head [] ts r s (k (all_any ns)) in let b = tails_map unmarked max (fold_expr heights) ts r in omega (arith, a, b));
   body = λ xs r s h e. body_above xs r s e;
   cases = λ xs r s h e. cases_above xs r s e;
-  handler = λ x r s h e. handler_above x r s e;
 }
 
 none_high : highest [] ≤ 1
@@ -214,42 +205,47 @@ pub parts_below : (n : Node) → highest (parts n) < height n
 parts_below (AnExpr x) =
     let a = expr_keeps above nodes Any (λ h ns. highest ns ≤ suc h) above_keeps (out-Expr x) 0 [] (all_any (parts (AnExpr x))) none_high in
     let b = expr_over greatest (fold_views heights) (out-Expr x) 0 in
-    let c = is_expr x ∙ fold_out-Expr ℕ ℕ ℕ ℕ ℕ ℕ ℕ ℕ heights.expr heights.function heights.key heights.pattern heights.pattern_property heights.property heights.stmt heights.slot x in
+    let c = is_expr x ∙ fold_out-Expr ℕ ℕ ℕ ℕ ℕ ℕ ℕ ℕ ℕ heights.expr heights.function heights.key heights.pattern heights.pattern_property heights.property heights.stmt heights.clause heights.slot x in
     omega (arith, a, b, c)
 parts_below (AFunction x) =
     let a = function_keeps above nodes Any (λ h ns. highest ns ≤ suc h) above_keeps (out-Function x) 0 [] (all_any (parts (AFunction x))) none_high in
     let b = function_over greatest (fold_views heights) (out-Function x) 0 in
-    let c = is_function x ∙ fold_out-Function ℕ ℕ ℕ ℕ ℕ ℕ ℕ ℕ heights.expr heights.function heights.key heights.pattern heights.pattern_property heights.property heights.stmt heights.slot x in
+    let c = is_function x ∙ fold_out-Function ℕ ℕ ℕ ℕ ℕ ℕ ℕ ℕ ℕ heights.expr heights.function heights.key heights.pattern heights.pattern_property heights.property heights.stmt heights.clause heights.slot x in
     omega (arith, a, b, c)
 parts_below (AKey x) =
     let a = key_keeps above nodes Any (λ h ns. highest ns ≤ suc h) above_keeps (out-Key x) 0 [] (all_any (parts (AKey x))) none_high in
     let b = key_over greatest (fold_views heights) (out-Key x) 0 in
-    let c = is_key x ∙ fold_out-Key ℕ ℕ ℕ ℕ ℕ ℕ ℕ ℕ heights.expr heights.function heights.key heights.pattern heights.pattern_property heights.property heights.stmt heights.slot x in
+    let c = is_key x ∙ fold_out-Key ℕ ℕ ℕ ℕ ℕ ℕ ℕ ℕ ℕ heights.expr heights.function heights.key heights.pattern heights.pattern_property heights.property heights.stmt heights.clause heights.slot x in
     omega (arith, a, b, c)
 parts_below (APattern x) =
     let a = pattern_keeps above nodes Any (λ h ns. highest ns ≤ suc h) above_keeps (out-Pattern x) 0 [] (all_any (parts (APattern x))) none_high in
     let b = pattern_over greatest (fold_views heights) (out-Pattern x) 0 in
-    let c = is_pattern x ∙ fold_out-Pattern ℕ ℕ ℕ ℕ ℕ ℕ ℕ ℕ heights.expr heights.function heights.key heights.pattern heights.pattern_property heights.property heights.stmt heights.slot x in
+    let c = is_pattern x ∙ fold_out-Pattern ℕ ℕ ℕ ℕ ℕ ℕ ℕ ℕ ℕ heights.expr heights.function heights.key heights.pattern heights.pattern_property heights.property heights.stmt heights.clause heights.slot x in
     omega (arith, a, b, c)
 parts_below (APatternProperty x) =
     let a = pattern_property_keeps above nodes Any (λ h ns. highest ns ≤ suc h) above_keeps (out-PatternProperty x) 0 [] (all_any (parts (APatternProperty x))) none_high in
     let b = pattern_property_over greatest (fold_views heights) (out-PatternProperty x) 0 in
-    let c = is_pattern_property x ∙ fold_out-PatternProperty ℕ ℕ ℕ ℕ ℕ ℕ ℕ ℕ heights.expr heights.function heights.key heights.pattern heights.pattern_property heights.property heights.stmt heights.slot x in
+    let c = is_pattern_property x ∙ fold_out-PatternProperty ℕ ℕ ℕ ℕ ℕ ℕ ℕ ℕ ℕ heights.expr heights.function heights.key heights.pattern heights.pattern_property heights.property heights.stmt heights.clause heights.slot x in
     omega (arith, a, b, c)
 parts_below (AProperty x) =
     let a = property_keeps above nodes Any (λ h ns. highest ns ≤ suc h) above_keeps (out-Property x) 0 [] (all_any (parts (AProperty x))) none_high in
     let b = property_over greatest (fold_views heights) (out-Property x) 0 in
-    let c = is_property x ∙ fold_out-Property ℕ ℕ ℕ ℕ ℕ ℕ ℕ ℕ heights.expr heights.function heights.key heights.pattern heights.pattern_property heights.property heights.stmt heights.slot x in
+    let c = is_property x ∙ fold_out-Property ℕ ℕ ℕ ℕ ℕ ℕ ℕ ℕ ℕ heights.expr heights.function heights.key heights.pattern heights.pattern_property heights.property heights.stmt heights.clause heights.slot x in
     omega (arith, a, b, c)
 parts_below (AStmt x) =
     let a = stmt_keeps above nodes Any (λ h ns. highest ns ≤ suc h) above_keeps (out-Stmt x) 0 [] (all_any (parts (AStmt x))) none_high in
     let b = stmt_over greatest (fold_views heights) (out-Stmt x) 0 in
-    let c = is_stmt x ∙ fold_out-Stmt ℕ ℕ ℕ ℕ ℕ ℕ ℕ ℕ heights.expr heights.function heights.key heights.pattern heights.pattern_property heights.property heights.stmt heights.slot x in
+    let c = is_stmt x ∙ fold_out-Stmt ℕ ℕ ℕ ℕ ℕ ℕ ℕ ℕ ℕ heights.expr heights.function heights.key heights.pattern heights.pattern_property heights.property heights.stmt heights.clause heights.slot x in
+    omega (arith, a, b, c)
+parts_below (AClause x) =
+    let a = clause_keeps above nodes Any (λ h ns. highest ns ≤ suc h) above_keeps (out-StmtClause x) 0 [] (all_any (parts (AClause x))) none_high in
+    let b = clause_over greatest (fold_views heights) (out-StmtClause x) 0 in
+    let c = is_clause x ∙ fold_out-StmtClause ℕ ℕ ℕ ℕ ℕ ℕ ℕ ℕ ℕ heights.expr heights.function heights.key heights.pattern heights.pattern_property heights.property heights.stmt heights.clause heights.slot x in
     omega (arith, a, b, c)
 parts_below (ASlot x) =
     let a = slot_keeps above nodes Any (λ h ns. highest ns ≤ suc h) above_keeps (out-Slot x) 0 [] (all_any (parts (ASlot x))) none_high in
     let b = slot_over greatest (fold_views heights) (out-Slot x) 0 in
-    let c = is_slot x ∙ fold_out-Slot ℕ ℕ ℕ ℕ ℕ ℕ ℕ ℕ heights.expr heights.function heights.key heights.pattern heights.pattern_property heights.property heights.stmt heights.slot x in
+    let c = is_slot x ∙ fold_out-Slot ℕ ℕ ℕ ℕ ℕ ℕ ℕ ℕ ℕ heights.expr heights.function heights.key heights.pattern heights.pattern_property heights.property heights.stmt heights.clause heights.slot x in
     omega (arith, a, b, c)
 parts_below (ATail head before t) =
     let a = tail_keeps plain plain_nodes Any (λ h ns. highest ns ≤ h) plain_keeps t 0 [] (all_any (parts (ATail head before t))) (omega arith) in
@@ -262,10 +258,6 @@ parts_below (ABody body) =
 parts_below (ACases xs) =
     let a = cases_keeps plain plain_nodes Any (λ h ns. highest ns ≤ h) plain_keeps xs 0 [] (all_any (parts (ACases xs))) (omega arith) in
     let b = is_cases xs in
-    omega (arith, a, b)
-parts_below (AHandler x) =
-    let a = handler_keeps plain plain_nodes Any (λ h ns. highest ns ≤ h) plain_keeps x 0 [] (all_any (parts (AHandler x))) (omega arith) in
-    let b = is_handler x in
     omega (arith, a, b)
 
 -- FOLDS

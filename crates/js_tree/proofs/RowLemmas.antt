@@ -6,11 +6,7 @@ use Rattle.js_tree.specs.declared.lists.ArrowParams.{ArrowParams}
 use Rattle.js_tree.specs.declared.lists.ArrowParams.TheVariants as shape
 use Rattle.js_tree.specs.declared.lists.Block.{Block}
 use Rattle.js_tree.specs.declared.lists.Bracket.{Bracket}
-use Rattle.js_tree.specs.declared.lists.Case.{Case}
 use Rattle.js_tree.specs.declared.lists.Element.{Element}
-use Rattle.js_tree.specs.declared.lists.ForStart.{ForStart}
-use Rattle.js_tree.specs.declared.lists.ForStart.TheVariants as start
-use Rattle.js_tree.specs.declared.lists.Handler.{Handler}
 use Rattle.js_tree.specs.declared.lists.Left.TheVariants as left
 use Rattle.js_tree.specs.declared.lists.Listed.{Listed}
 use Rattle.js_tree.specs.declared.lists.Tail.{Tail}
@@ -19,18 +15,19 @@ use Rattle.js_tree.specs.declared.lists.Template.{Template}
 use Rattle.js_tree.specs.declared.token_kind.TokenKind.{TokenKind}
 use Rattle.js_tree.specs.declared.token_kind.TokenKind.TheVariants as kind
 use Rattle.js_tree.specs.declared.tree.Expr.{Expr}
-use Rattle.js_tree.specs.declared.tree.Expr.TheOpen.{Expr-F, Function-F, Key-F, Pattern-F, PatternProperty-F, Property-F, Stmt-F}
-use Rattle.js_tree.specs.Folds.{Views, ExprOf, FunctionOf, PatternOf, SlotOf, StmtOf, ExprLayer, FunctionLayer, KeyLayer, PatternLayer, PatternPropertyLayer, PropertyLayer, StmtLayer, SlotLayer, seen_expr, seen_function, seen_key, seen_pattern, seen_pattern_property, seen_property, seen_stmt, seen_slot}
+use Rattle.js_tree.specs.declared.tree.Expr.TheOpen.{Expr-F, Function-F, Key-F, Pattern-F, PatternProperty-F, Property-F, Stmt-F, StmtClause-F}
+use Rattle.js_tree.specs.Folds.{Views, ClauseOf, ExprOf, FunctionOf, PatternOf, SlotOf, StmtOf, ExprLayer, FunctionLayer, KeyLayer, PatternLayer, PatternPropertyLayer, PropertyLayer, StmtLayer, ClauseLayer, SlotLayer, seen_expr, seen_function, seen_key, seen_pattern, seen_pattern_property, seen_property, seen_stmt, seen_clause, seen_slot}
 use Rattle.js_tree.specs.Operators.{begins_value, is_binary, is_declarator, on_line}
 use Rattle.js_tree.specs.Parts.{Node, ATail, NodeWriter, each_tail}
+use Rattle.js_tree.specs.Spelling.Clauses.{clause_row}
 use Rattle.js_tree.specs.Spelling.Expressions.{expr_row}
 use Rattle.js_tree.specs.Spelling.Functions.{function_row}
 use Rattle.js_tree.specs.Spelling.Patterns.{pattern_row, pattern_property_row, slot_row}
 use Rattle.js_tree.specs.Spelling.Properties.{key_row, property_row}
-use Rattle.js_tree.specs.Spelling.Rows.{Marks, WriterOf, mark, may_mark, each_of, maybe, further_row, listed_row, bracket_row, element_row, round_row, item_row, array_row, arrow_params_row, template_head, template_mark, template_parts, template_row, tail_row, arm_row, init_row, block_row, enclosed_row, guarded_row, for_start_row, case_word, case_row, handler_row}
+use Rattle.js_tree.specs.Spelling.Rows.{Marks, WriterOf, mark, may_mark, each_of, maybe, further_row, listed_row, bracket_row, element_row, round_row, item_row, array_row, arrow_params_row, template_head, template_mark, template_parts, template_row, tail_row, arm_row, init_row, block_row, enclosed_row, case_word}
 use Rattle.js_tree.specs.Spelling.Statements.{stmt_row}
 use Rattle.js_tree.specs.TokenKinds.{is}
-use Rattle.js_tree.proofs.Folds.{map_maybe, map_further, map_listed, map_element, map_bracket, map_round, map_array, map_params, map_template, map_tail, map_arm, map_init, map_enclosed, map_guarded, map_for_start, map_case, map_handler, layer-Array, layer-Object, layer-ArrayPattern, layer-ObjectPattern, layer-Chain, layer-New, layer-Keyword, layer-Arrow, layer-ArrowBlock, layer-If, layer-For, layer-Return, layer-Switch, layer-Try, layer-Slot}
+use Rattle.js_tree.proofs.Folds.{map_maybe, map_further, map_listed, map_element, map_bracket, map_round, map_array, map_params, map_template, map_tail, map_arm, map_init, map_enclosed, layer-Array, layer-Object, layer-ArrayPattern, layer-ObjectPattern, layer-Chain, layer-New, layer-Keyword, layer-Arrow, layer-ArrowBlock, layer-If, layer-For, layer-Return, layer-Try, layer-Case, layer-Catch, layer-Slot}
 
 -- the next tail of a chain
 pub drop_next : {X : Type 0} (xs : List X) (i : ℕ) (d : X) → i < length xs → drop i xs ≡ get_or xs i d ∷ drop (i + 1) xs
@@ -119,22 +116,6 @@ word_map : {X Y : Type 0} (f : X → Y) (o : Option X) → case_word (map_maybe 
 word_map f None = refl
 word_map f (Some x) = refl
 
-module _ {X Y U V R : Type 0} (m : Marks R) (put : Y → R → R) (also : V → R → R) (f : X → Y) (g : U → V) where
-  pub for_start_map : (x : ForStart X U) (rest : R) → for_start_row m put also (map_for_start f g x) rest ≡ for_start_row m (λ x. put (f x)) (λ x. also (g x)) x rest
-  for_start_map (start.Vars word first others) rest = ap (λ r. m.token is_declarator word (also (g first) r)) (each_map (further_row m also (is kind.Comma)) (map_further g) others rest)
-  for_start_map (start.Value x) rest = refl
-
-  pub case_map : (x : Case X U) (rest : R) → case_row m put also (map_case f g x) rest ≡ case_row m (λ x. put (f x)) (λ x. also (g x)) x rest
-  case_map x rest =
-      let behind = maybe_map put f x.test (mark m kind.Colon x.colon (each_of also (map g x.body) rest)) ∙ ap (λ r. maybe (λ x. put (f x)) x.test (mark m kind.Colon x.colon r)) (each_map also g x.body rest) in
-      λ i. m.token (word_map f x.test i) x.word (behind i)
-
-  pub cases_map : (xs : List (Case X U)) (rest : R) → each_of (case_row m put also) (map (map_case f g) xs) rest ≡ each_of (case_row m (λ x. put (f x)) (λ x. also (g x))) xs rest
-  cases_map = each_over (case_row m put also) (case_row m (λ x. put (f x)) (λ x. also (g x))) (map_case f g) case_map
-
-  pub handler_map : (x : Handler X U) (rest : R) → handler_row m put also (map_handler f g x) rest ≡ handler_row m (λ x. put (f x)) (λ x. also (g x)) x rest
-  handler_map x rest = ap (mark m kind.Catch x.word) (maybe_map (enclosed_row m put) (map_enclosed f) x.target (also (g x.body) rest))
-
 module _ {A R : Type 0} (w : WriterOf A R) (v : Views A) where
   -- the same use over what is seen
   abbrev pub over : NodeWriter R
@@ -147,11 +128,11 @@ module _ {A R : Type 0} (w : WriterOf A R) (v : Views A) where
     pattern_property = λ x. w.pattern_property (v.pattern_property x);
     property = λ x. w.property (v.property x);
     stmt = λ x. w.stmt (v.stmt x);
+    clause = λ x. w.clause (v.clause x);
     slot = λ x. w.slot (v.slot x);
     tails = λ head ts. w.tails (v.expr head) (map (map_tail v.expr) ts);
     body = λ xs. w.body (map v.stmt xs);
-    cases = λ xs. w.cases (map (map_case v.expr v.stmt) xs);
-    handler = λ x. w.handler (map_handler v.pattern v.stmt x);
+    cases = λ xs. w.cases (map v.clause xs);
   }
 
   pub expr_over : (x : ExprLayer) (rest : R) → expr_row w (seen_expr v x) rest ≡ expr_row over x rest
@@ -207,22 +188,21 @@ module _ {A R : Type 0} (w : WriterOf A R) (v : Views A) where
   stmt_over (Stmt-F.Empty semi) rest = refl
   stmt_over (Stmt-F.Plain value semi) rest = refl
   stmt_over (Stmt-F.If first others last) rest =
-      let guarded = guarded_row w.marks (is kind.If) w.expr w.stmt in
       ap (λ (l : StmtOf A). stmt_row w l rest) (layer-If v first others last)
-      ∙ ap (guarded (map_guarded v.expr v.stmt first))
-      (each_map (further_row w.marks guarded (is kind.Else)) (map_further (map_guarded v.expr v.stmt)) others (maybe (further_row w.marks w.stmt (is kind.Else)) (map_maybe (map_further v.stmt) last) rest)
-      ∙ ap (each_of (further_row w.marks (guarded_row w.marks (is kind.If) over.expr over.stmt) (is kind.Else)) others) (maybe_map (further_row w.marks w.stmt (is kind.Else)) (map_further v.stmt) last rest))
+      ∙ ap (w.clause (v.clause first))
+      (each_map (further_row w.marks w.clause (is kind.Else)) (map_further v.clause) others (maybe (further_row w.marks w.stmt (is kind.Else)) (map_maybe (map_further v.stmt) last) rest)
+      ∙ ap (each_of (further_row w.marks over.clause (is kind.Else)) others) (maybe_map (further_row w.marks w.stmt (is kind.Else)) (map_further v.stmt) last rest))
   stmt_over (Stmt-F.Do word body again test semi) rest = refl
-  stmt_over (Stmt-F.While guarded) rest = refl
+  stmt_over (Stmt-F.While word test body) rest = refl
   stmt_over (Stmt-F.For word begin o first test second step end body) rest =
       let inner = w.marks.token (is kind.RightParen) end (w.stmt (v.stmt body) rest) in
       let last = maybe_map w.expr v.expr step inner in
       let middle = maybe_map w.expr v.expr test (mark w.marks kind.Semicolon second (maybe w.expr (map_maybe v.expr step) inner)) ∙ ap (λ r. maybe over.expr test (mark w.marks kind.Semicolon second r)) last in
       ap (λ (l : StmtOf A). stmt_row w l rest) (layer-For v word begin o first test second step end body)
       ∙ ap (λ r. mark w.marks kind.For word (mark w.marks kind.LeftParen begin r))
-      (maybe_over (for_start_row w.marks w.expr w.slot) (for_start_row w.marks over.expr over.slot) (map_for_start v.expr v.slot) (for_start_map w.marks w.expr w.slot v.expr v.slot) o
+      (maybe_map w.clause v.clause o
       (mark w.marks kind.Semicolon first (maybe w.expr (map_maybe v.expr test) (mark w.marks kind.Semicolon second (maybe w.expr (map_maybe v.expr step) inner))))
-      ∙ ap (λ r. maybe (for_start_row w.marks over.expr over.slot) o (mark w.marks kind.Semicolon first r)) middle)
+      ∙ ap (λ r. maybe over.clause o (mark w.marks kind.Semicolon first r)) middle)
   stmt_over (Stmt-F.ForIn word begin (left.Vars declarator target) sign value end body) rest = refl
   stmt_over (Stmt-F.ForIn word begin (left.Target target) sign value end body) rest = refl
   stmt_over (Stmt-F.ForOf word begin (left.Vars declarator target) sign value end body) rest = refl
@@ -232,16 +212,29 @@ module _ {A R : Type 0} (w : WriterOf A R) (v : Views A) where
       ap (λ (l : StmtOf A). stmt_row w l rest) (layer-Return v word value semi)
       ∙ ap (mark w.marks kind.Return word) (maybe_map (λ x more. w.marks.ahead on_line (w.expr x more)) v.expr value (may_mark w.marks kind.Semicolon semi rest))
   stmt_over (Stmt-F.Throw word value semi) rest = refl
-  stmt_over (Stmt-F.Switch word value begin cases end) rest =
-      ap (λ (l : StmtOf A). stmt_row w l rest) (layer-Switch v word value begin cases end)
+  stmt_over (Stmt-F.Switch word value begin cases end) rest = refl
   stmt_over (Stmt-F.Try word body handler last) rest =
       ap (λ (l : StmtOf A). stmt_row w l rest) (layer-Try v word body handler last)
       ∙ ap (λ r. mark w.marks kind.Try word (w.stmt (v.stmt body) r))
-      (maybe_map w.handler (map_handler v.pattern v.stmt) handler (maybe (further_row w.marks w.stmt (is kind.Finally)) (map_maybe (map_further v.stmt) last) rest)
-      ∙ ap (maybe over.handler handler) (maybe_map (further_row w.marks w.stmt (is kind.Finally)) (map_further v.stmt) last rest))
+      (maybe_map w.clause v.clause handler (maybe (further_row w.marks w.stmt (is kind.Finally)) (map_maybe (map_further v.stmt) last) rest)
+      ∙ ap (maybe over.clause handler) (maybe_map (further_row w.marks w.stmt (is kind.Finally)) (map_further v.stmt) last rest))
   stmt_over (Stmt-F.Label name colon body) rest = refl
   stmt_over (Stmt-F.Debugger word semi) rest = refl
   stmt_over (Stmt-F.«Stmt::Fun» function) rest = refl
+
+  pub clause_over : (x : ClauseLayer) (rest : R) → clause_row w (seen_clause v x) rest ≡ clause_row over x rest
+  clause_over (StmtClause-F.Guarded word test body) rest = refl
+  clause_over (StmtClause-F.Case word test colon body) rest =
+      let value = maybe_map w.expr v.expr test (mark w.marks kind.Colon colon (each_of w.stmt (map v.stmt body) rest)) in
+      let behind = ap (λ r. maybe over.expr test (mark w.marks kind.Colon colon r)) (each_map w.stmt v.stmt body rest) in
+      ap (λ (l : ClauseOf A). clause_row w l rest) (layer-Case v word test colon body)
+      ∙ (λ i. w.marks.token (word_map v.expr test i) word ((value ∙ behind) i))
+  clause_over (StmtClause-F.Catch word target body) rest =
+      ap (λ (l : ClauseOf A). clause_row w l rest) (layer-Catch v word target body)
+      ∙ ap (mark w.marks kind.Catch word) (maybe_map (enclosed_row w.marks w.pattern) (map_enclosed v.pattern) target (w.stmt (v.stmt body) rest))
+  clause_over (StmtClause-F.Declared word first others) rest =
+      ap (λ r. w.marks.token is_declarator word (w.slot (v.slot first) r)) (each_map (further_row w.marks w.slot (is kind.Comma)) (map_further v.slot) others rest)
+  clause_over (StmtClause-F.Value value) rest = refl
 
   pub slot_over : (x : SlotLayer) (rest : R) → slot_row w (seen_slot v x) rest ≡ slot_row over x rest
   slot_over x rest =

@@ -6,14 +6,9 @@ use Rattle.js_tree.specs.declared.lists.ArrowParams.{ArrowParams}
 use Rattle.js_tree.specs.declared.lists.ArrowParams.TheVariants as shape
 use Rattle.js_tree.specs.declared.lists.Block.{Block}
 use Rattle.js_tree.specs.declared.lists.Bracket.{Bracket}
-use Rattle.js_tree.specs.declared.lists.Case.{Case}
 use Rattle.js_tree.specs.declared.lists.Element.{Element}
 use Rattle.js_tree.specs.declared.lists.Enclosed.{Enclosed}
-use Rattle.js_tree.specs.declared.lists.ForStart.{ForStart}
-use Rattle.js_tree.specs.declared.lists.ForStart.TheVariants as start
 use Rattle.js_tree.specs.declared.lists.Further.{Further}
-use Rattle.js_tree.specs.declared.lists.Guarded.{Guarded}
-use Rattle.js_tree.specs.declared.lists.Handler.{Handler}
 use Rattle.js_tree.specs.declared.lists.Init.{Init}
 use Rattle.js_tree.specs.declared.lists.Left.{Left}
 use Rattle.js_tree.specs.declared.lists.Left.TheVariants as left
@@ -25,7 +20,7 @@ use Rattle.js_tree.specs.declared.token.Token.{Token}
 use Rattle.js_tree.specs.declared.token_kind.TokenKind.{TokenKind}
 use Rattle.js_tree.specs.declared.token_kind.TokenKind.TheVariants as kind
 use Rattle.js_tree.specs.declared.tree.Expr.{Expr}
-use Rattle.js_tree.specs.declared.tree.Expr.TheOpen.{Expr-F, Function-F, Key-F, Pattern-F, PatternProperty-F, Property-F, Stmt-F}
+use Rattle.js_tree.specs.declared.tree.Expr.TheOpen.{Expr-F, Function-F, Key-F, Pattern-F, PatternProperty-F, Property-F, Stmt-F, StmtClause-F}
 use Rattle.js_tree.specs.declared.tree.Function.{Function}
 use Rattle.js_tree.specs.declared.tree.Key.{Key}
 use Rattle.js_tree.specs.declared.tree.Pattern.{Pattern}
@@ -33,14 +28,16 @@ use Rattle.js_tree.specs.declared.tree.PatternProperty.{PatternProperty}
 use Rattle.js_tree.specs.declared.tree.Property.{Property}
 use Rattle.js_tree.specs.declared.tree.Slot.{Slot}
 use Rattle.js_tree.specs.declared.tree.Stmt.{Stmt}
-use Rattle.js_tree.specs.Folds.{ExprLayer, FunctionLayer, KeyLayer, PatternLayer, PatternPropertyLayer, PropertyLayer, StmtLayer, SlotLayer}
+use Rattle.js_tree.specs.declared.tree.StmtClause.{StmtClause}
+use Rattle.js_tree.specs.Folds.{ExprLayer, FunctionLayer, KeyLayer, PatternLayer, PatternPropertyLayer, PropertyLayer, StmtLayer, ClauseLayer, SlotLayer}
 use Rattle.js_tree.specs.Operators.{begins_plain, begins_value, is_assignment, is_binary, is_declarator, is_jump, is_key, is_literal, is_member_name, is_unary, is_update, on_line}
-use Rattle.js_tree.specs.Parts.{Node, AnExpr, AFunction, AKey, APattern, APatternProperty, AProperty, AStmt, ASlot, ABody, ACases, AHandler, NodeWriter, nodes, tails_behind}
+use Rattle.js_tree.specs.Parts.{Node, AnExpr, AFunction, AKey, APattern, APatternProperty, AProperty, AStmt, AClause, ASlot, ABody, ACases, NodeWriter, nodes, tails_behind}
+use Rattle.js_tree.specs.Spelling.Clauses.{clause_row}
 use Rattle.js_tree.specs.Spelling.Expressions.{expr_row}
 use Rattle.js_tree.specs.Spelling.Functions.{function_row}
 use Rattle.js_tree.specs.Spelling.Patterns.{pattern_row, pattern_property_row, slot_row}
 use Rattle.js_tree.specs.Spelling.Properties.{key_row, property_row}
-use Rattle.js_tree.specs.Spelling.Rows.{Marks, mark, may_mark, each_of, maybe, further_row, listed_row, element_row, bracket_row, round_row, arrow_params_row, template_head, template_mark, template_parts, template_row, tail_row, arm_row, init_row, block_row, enclosed_row, guarded_row, for_start_row, left_row, case_word, case_row, handler_row}
+use Rattle.js_tree.specs.Spelling.Rows.{Marks, mark, may_mark, each_of, maybe, further_row, listed_row, element_row, bracket_row, round_row, arrow_params_row, template_head, template_mark, template_parts, template_row, tail_row, arm_row, init_row, block_row, enclosed_row, left_row, case_word}
 use Rattle.js_tree.specs.Spelling.Nodes.{unmarked}
 use Rattle.js_tree.specs.Spelling.Statements.{stmt_row}
 use Rattle.js_tree.specs.TokenKinds.{is}
@@ -57,11 +54,11 @@ pub record Keeps {R S : Type 0} (v : NodeWriter R) (w : NodeWriter S) (H : Node 
   pub pattern_property : (x : PatternProperty) (r : R) (s : S) → H (APatternProperty x) → Rel r s → Rel (v.pattern_property x r) (w.pattern_property x s)
   pub property : (x : Property) (r : R) (s : S) → H (AProperty x) → Rel r s → Rel (v.property x r) (w.property x s)
   pub stmt : (x : Stmt) (r : R) (s : S) → H (AStmt x) → Rel r s → Rel (v.stmt x r) (w.stmt x s)
+  pub clause : (x : StmtClause) (r : R) (s : S) → H (AClause x) → Rel r s → Rel (v.clause x r) (w.clause x s)
   pub slot : (x : Slot) (r : R) (s : S) → H (ASlot x) → Rel r s → Rel (v.slot x r) (w.slot x s)
   pub tails : (head : Expr) (ts : List (Tail Expr)) (ns : List Node) (r : R) (s : S) → AllByRecursion H (tails_behind head [] ts ns) → (AllByRecursion H ns → Rel r s) → Rel (v.tails head ts r) (w.tails head ts s)
   pub body : (xs : List Stmt) (r : R) (s : S) → H (ABody xs) → Rel r s → Rel (v.body xs r) (w.body xs s)
-  pub cases : (xs : List (Case Expr Stmt)) (r : R) (s : S) → H (ACases xs) → Rel r s → Rel (v.cases xs r) (w.cases xs s)
-  pub handler : (x : Handler Pattern Stmt) (r : R) (s : S) → H (AHandler x) → Rel r s → Rel (v.handler x r) (w.handler x s)
+  pub cases : (xs : List StmtClause) (r : R) (s : S) → H (ACases xs) → Rel r s → Rel (v.cases xs r) (w.cases xs s)
 
 -- the relation, where H holds of these nodes
 pub record Goes {R S : Type 0} (H : Node → Type 0) (Rel : R → S → Type 0) (ns : List Node) (r : R) (s : S) : Type 0 where
@@ -108,6 +105,9 @@ module _ {R S : Type 0} (v : NodeWriter R) (w : NodeWriter S) (H : Node → Type
   stmt : {ns : List Node} {r : R} {s : S} (x : Stmt) → G ns r s → G (AStmt x ∷ ns) (v.stmt x r) (w.stmt x s)
   stmt {ns} {r} {s} x g = record { by = λ h. keeps.stmt x r s h.0 (g.by h.1) }
 
+  clause : {ns : List Node} {r : R} {s : S} (x : StmtClause) → G ns r s → G (AClause x ∷ ns) (v.clause x r) (w.clause x s)
+  clause {ns} {r} {s} x g = record { by = λ h. keeps.clause x r s h.0 (g.by h.1) }
+
   slot : {ns : List Node} {r : R} {s : S} (x : Slot) → G ns r s → G (ASlot x ∷ ns) (v.slot x r) (w.slot x s)
   slot {ns} {r} {s} x g = record { by = λ h. keeps.slot x r s h.0 (g.by h.1) }
 
@@ -117,11 +117,8 @@ module _ {R S : Type 0} (v : NodeWriter R) (w : NodeWriter S) (H : Node → Type
   body : {ns : List Node} {r : R} {s : S} (xs : List Stmt) → G ns r s → G (ABody xs ∷ ns) (v.body xs r) (w.body xs s)
   body {ns} {r} {s} xs g = record { by = λ h. keeps.body xs r s h.0 (g.by h.1) }
 
-  cases : {ns : List Node} {r : R} {s : S} (xs : List (Case Expr Stmt)) → G ns r s → G (ACases xs ∷ ns) (v.cases xs r) (w.cases xs s)
+  cases : {ns : List Node} {r : R} {s : S} (xs : List StmtClause) → G ns r s → G (ACases xs ∷ ns) (v.cases xs r) (w.cases xs s)
   cases {ns} {r} {s} xs g = record { by = λ h. keeps.cases xs r s h.0 (g.by h.1) }
-
-  handler : {ns : List Node} {r : R} {s : S} (x : Handler Pattern Stmt) → G ns r s → G (AHandler x ∷ ns) (v.handler x r) (w.handler x s)
-  handler {ns} {r} {s} x g = record { by = λ h. keeps.handler x r s h.0 (g.by h.1) }
 
   token_maybe : {ns : List Node} {r : R} {s : S} (k : TokenKind) (o : Option Token) → G ns r s → G ns (may_mark v.marks k o r) (may_mark w.marks k o s)
   token_maybe {ns} {r} {s} k o g = record { by = λ h. keeps.option (is k) o r s (g.by h) }
@@ -143,8 +140,8 @@ module _ {R S : Type 0} (v : NodeWriter R) (w : NodeWriter S) (H : Node → Type
   abbrev patterns : I Pattern
   patterns = record { put = nodes.pattern; one = v.pattern; two = w.pattern; goes = λ x ns r s g. pattern x g }
 
-  abbrev handlers : I (Handler Pattern Stmt)
-  handlers = record { put = nodes.handler; one = v.handler; two = w.handler; goes = λ x ns r s g. handler x g }
+  abbrev clauses : I StmtClause
+  clauses = record { put = nodes.clause; one = v.clause; two = w.clause; goes = λ x ns r s g. clause x g }
 
   abbrev properties : I Property
   properties = record { put = nodes.property; one = v.property; two = w.property; goes = λ x ns r s g. property x g }
@@ -236,38 +233,6 @@ module _ {R S : Type 0} (v : NodeWriter R) (w : NodeWriter S) (H : Node → Type
     template : {ns : List Node} {r : R} {s : S} (t : Template X) → G ns r s → G (template_row unm i.put t ns) (template_row v.marks i.one t r) (template_row w.marks i.two t s)
     template t g = token (template_head t.parts) t.head (substitutions t.parts g)
 
-  module _ {X Y : Type 0} (i : I X) (j : I Y) where
-    abbrev guarded : (test : TokenKind → Bool) → I (Guarded X Y)
-    guarded test = record {
-      put = guarded_row unm test i.put j.put;
-      one = guarded_row v.marks test i.one j.one;
-      two = guarded_row w.marks test i.two j.two;
-      goes = λ x ns r s g. token test x.word (token (is kind.LeftParen) x.test.«open» (i.goes x.test.item _ _ _ (token (is kind.RightParen) x.test.close (j.goes x.body _ _ _ g))));
-    }
-
-    one_start : {ns : List Node} {r : R} {s : S} (x : ForStart X Y) → G ns r s → G (for_start_row unm i.put j.put x ns) (for_start_row v.marks i.one j.one x r) (for_start_row w.marks i.two j.two x s)
-    one_start (start.Vars word first others) g = token is_declarator word (j.goes first _ _ _ (each (further j (is kind.Comma)) others g))
-    one_start (start.Value x) g = i.goes x _ _ _ g
-
-    abbrev starts : I (ForStart X Y)
-    starts = record { put = for_start_row unm i.put j.put; one = for_start_row v.marks i.one j.one; two = for_start_row w.marks i.two j.two; goes = λ x ns r s g. one_start x g }
-
-    abbrev each_case : I (Case X Y)
-    each_case = record {
-      put = case_row unm i.put j.put;
-      one = case_row v.marks i.one j.one;
-      two = case_row w.marks i.two j.two;
-      goes = λ x ns r s g. token (case_word x.test) x.word (perhaps i x.test (token (is kind.Colon) x.colon (each j x.body g)));
-    }
-
-    abbrev caught : I (Handler X Y)
-    caught = record {
-      put = handler_row unm i.put j.put;
-      one = handler_row v.marks i.one j.one;
-      two = handler_row w.marks i.two j.two;
-      goes = λ x ns r s g. token (is kind.Catch) x.word (perhaps (enclosed i) x.target (j.goes x.body _ _ _ g));
-    }
-
   module _ (begin end : TokenKind) {X : Type 0} (i : I X) where
     bracket : {ns : List Node} {r : R} {s : S} (b : Bracket X) → G ns r s → G (bracket_row unm begin end i.put b ns) (bracket_row v.marks begin end i.one b r) (bracket_row w.marks begin end i.two b s)
     bracket b g = token (is begin) b.«open» (each (listed i) b.front (perhaps i b.last (token (is end) b.close g)))
@@ -346,12 +311,11 @@ module _ {R S : Type 0} (v : NodeWriter R) (w : NodeWriter S) (H : Node → Type
   goes_stmt (Stmt-F.Empty semi) g = token (is kind.Semicolon) semi g
   goes_stmt (Stmt-F.Plain value semi) g = ahead begins_plain (expr value (token_maybe kind.Semicolon semi g))
   goes_stmt (Stmt-F.If first others last) g =
-      let tests = guarded exprs stmts (is kind.If) in
-      tests.goes first _ _ _ (each (further tests (is kind.Else)) others (perhaps (further stmts (is kind.Else)) last g))
+      clause first (each (further clauses (is kind.Else)) others (perhaps (further stmts (is kind.Else)) last g))
   goes_stmt (Stmt-F.Do word inner again test semi) g = token (is kind.Do) word (stmt inner (token (is kind.While) again ((enclosed exprs).goes test _ _ _ (token_maybe kind.Semicolon semi g))))
-  goes_stmt (Stmt-F.While x) g = (guarded exprs stmts (is kind.While)).goes x _ _ _ g
+  goes_stmt (Stmt-F.While word test inner) g = token (is kind.While) word ((enclosed exprs).goes test _ _ _ (stmt inner g))
   goes_stmt (Stmt-F.For word begin o first test second step end inner) g =
-      token (is kind.For) word (token (is kind.LeftParen) begin (perhaps (starts exprs slots) o
+      token (is kind.For) word (token (is kind.LeftParen) begin (perhaps clauses o
       (token (is kind.Semicolon) first (perhaps exprs test
       (token (is kind.Semicolon) second (perhaps exprs step (token (is kind.RightParen) end (stmt inner g))))))))
   goes_stmt (Stmt-F.ForIn word begin l sign value end inner) g =
@@ -363,10 +327,17 @@ module _ {R S : Type 0} (v : NodeWriter R) (w : NodeWriter S) (H : Node → Type
   goes_stmt (Stmt-F.Throw word value semi) g = token (is kind.Throw) word (ahead on_line (expr value (token_maybe kind.Semicolon semi g)))
   goes_stmt (Stmt-F.Switch word value begin xs end) g =
       token (is kind.Switch) word ((enclosed exprs).goes value _ _ _ (token (is kind.LeftBrace) begin (cases xs (token (is kind.RightBrace) end g))))
-  goes_stmt (Stmt-F.Try word tried o last) g = token (is kind.Try) word (stmt tried (perhaps handlers o (perhaps (further stmts (is kind.Finally)) last g)))
+  goes_stmt (Stmt-F.Try word tried o last) g = token (is kind.Try) word (stmt tried (perhaps clauses o (perhaps (further stmts (is kind.Finally)) last g)))
   goes_stmt (Stmt-F.Label name colon inner) g = token (is kind.Name) name (token (is kind.Colon) colon (stmt inner g))
   goes_stmt (Stmt-F.Debugger word semi) g = token (is kind.Debugger) word (token_maybe kind.Semicolon semi g)
   goes_stmt (Stmt-F.«Stmt::Fun» f) g = function f g
+
+  goes_clause : {ns : List Node} {r : R} {s : S} (x : ClauseLayer) → G ns r s → G (clause_row nodes x ns) (clause_row v x r) (clause_row w x s)
+  goes_clause (StmtClause-F.Guarded word test inner) g = token (is kind.If) word ((enclosed exprs).goes test _ _ _ (stmt inner g))
+  goes_clause (StmtClause-F.Case word test colon inner) g = token (case_word test) word (perhaps exprs test (token (is kind.Colon) colon (each stmts inner g)))
+  goes_clause (StmtClause-F.Catch word target inner) g = token (is kind.Catch) word (perhaps (enclosed patterns) target (stmt inner g))
+  goes_clause (StmtClause-F.Declared word first others) g = token is_declarator word (slot first (each (further slots (is kind.Comma)) others g))
+  goes_clause (StmtClause-F.Value value) g = expr value g
 
   goes_slot : {ns : List Node} {r : R} {s : S} (x : SlotLayer) → G ns r s → G (slot_row nodes x ns) (slot_row v x r) (slot_row w x s)
   goes_slot x g = pattern x.target (perhaps (inits exprs) x.init g)
@@ -396,6 +367,9 @@ module _ {R S : Type 0} (v : NodeWriter R) (w : NodeWriter S) (H : Node → Type
   pub stmt_keeps : (x : StmtLayer) (r : R) (s : S) → AllByRecursion H (stmt_row nodes x []) → Rel r s → Rel (stmt_row v x r) (stmt_row w x s)
   stmt_keeps x r s h e = (goes_stmt x (stays r s e)).by h
 
+  pub clause_keeps : (x : ClauseLayer) (r : R) (s : S) → AllByRecursion H (clause_row nodes x []) → Rel r s → Rel (clause_row v x r) (clause_row w x s)
+  clause_keeps x r s h e = (goes_clause x (stays r s e)).by h
+
   pub slot_keeps : (x : SlotLayer) (r : R) (s : S) → AllByRecursion H (slot_row nodes x []) → Rel r s → Rel (slot_row v x r) (slot_row w x s)
   slot_keeps x r s h e = (goes_slot x (stays r s e)).by h
 
@@ -405,13 +379,8 @@ module _ {R S : Type 0} (v : NodeWriter R) (w : NodeWriter S) (H : Node → Type
   pub body_keeps : (xs : List Stmt) (r : R) (s : S) → AllByRecursion H (each_of nodes.stmt xs []) → Rel r s → Rel (each_of v.stmt xs r) (each_of w.stmt xs s)
   body_keeps xs r s h e = (each stmts xs (stays r s e)).by h
 
-  pub cases_keeps : (xs : List (Case Expr Stmt)) (r : R) (s : S) → AllByRecursion H (each_of (case_row unm nodes.expr nodes.stmt) xs []) → Rel r s
-      → Rel (each_of (case_row v.marks v.expr v.stmt) xs r) (each_of (case_row w.marks w.expr w.stmt) xs s)
-  cases_keeps xs r s h e = (each (each_case exprs stmts) xs (stays r s e)).by h
-
-  pub handler_keeps : (x : Handler Pattern Stmt) (r : R) (s : S) → AllByRecursion H (handler_row unm nodes.pattern nodes.stmt x []) → Rel r s
-      → Rel (handler_row v.marks v.pattern v.stmt x r) (handler_row w.marks w.pattern w.stmt x s)
-  handler_keeps x r s h e = ((caught patterns stmts).goes x _ _ _ (stays r s e)).by h
+  pub cases_keeps : (xs : List StmtClause) (r : R) (s : S) → AllByRecursion H (each_of nodes.clause xs []) → Rel r s → Rel (each_of v.clause xs r) (each_of w.clause xs s)
+  cases_keeps xs r s h e = (each clauses xs (stays r s e)).by h
 
   pub arguments_keeps : (o : Bracket (Element Expr)) (r : R) (s : S) → AllByRecursion H (round_row unm nodes.expr o []) → Rel r s → Rel (round_row v.marks v.expr o r) (round_row w.marks w.expr o s)
   arguments_keeps o r s h e = (round exprs o (stays r s e)).by h

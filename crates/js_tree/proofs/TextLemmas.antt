@@ -24,7 +24,7 @@ use Rattle.js_tree.specs.Lexical.Name as name
 use Rattle.js_tree.specs.Lexical.Regex as regex
 use Rattle.js_tree.specs.Lexing.{Place, start_of}
 use Rattle.js_tree.specs.Line.{LineItem, ANode, items, possible, line_of}
-use Rattle.js_tree.specs.Parts.{Node, NodeWriter, AnExpr, AFunction, AKey, APattern, APatternProperty, AProperty, AStmt, ASlot, ATail, ABody, ACases, AHandler, each_tail, parts, tails_behind}
+use Rattle.js_tree.specs.Parts.{Node, NodeWriter, AnExpr, AFunction, AKey, APattern, APatternProperty, AProperty, AStmt, AClause, ASlot, ATail, ABody, ACases, each_tail, parts, tails_behind}
 use Rattle.js_tree.specs.Spelling.{tokens_of}
 use Rattle.js_tree.specs.Spelling.Expressions.{expr_row}
 use Rattle.js_tree.specs.Spelling.Functions.{function_row}
@@ -249,11 +249,11 @@ some_part = record {
   pattern_property = λ x b. b;
   property = λ x b. b;
   stmt = λ x b. b;
+  clause = λ x b. b;
   slot = λ x b. b;
   tails = λ head ts b. b;
   body = λ xs b. b;
   cases = λ xs b. b;
-  handler = λ x b. b;
 }
 
 arms_some : (arms : List (Arm Expr)) → each_of (arm_row some_part.marks some_part.expr) arms true ≡ true
@@ -315,11 +315,11 @@ has_some = record {
   pattern_property = λ x r s h e. also_has (APatternProperty x) r s e;
   property = λ x r s h e. also_has (AProperty x) r s e;
   stmt = λ x r s h e. also_has (AStmt x) r s e;
+  clause = λ x r s h e. also_has (AClause x) r s e;
   slot = λ x r s h e. also_has (ASlot x) r s e;
   tails = λ head ts ns r s h k. tails_have head [] ts ns r s h k;
   body = λ xs r s h e. also_has (ABody xs) r s e;
   cases = λ xs r s h e. also_has (ACases xs) r s e;
-  handler = λ x r s h e. also_has (AHandler x) r s e;
 }
 
 none_has : Has false []
@@ -336,11 +336,11 @@ begins_by (AKey x) each = tt
 begins_by (APatternProperty x) each = tt
 begins_by (AProperty x) each = tt
 begins_by (AStmt x) each = tt
+begins_by (AClause x) each = tt
 begins_by (ASlot x) each = tt
 begins_by (ATail head before t) each = tt
 begins_by (ABody body) each = tt
 begins_by (ACases xs) each = tt
-begins_by (AHandler x) each = tt
 
 pub some_token : (x : Expr) → 0 < length (tokens_in (AnExpr x))
 some_token x = along_parts Begins begins_by (AnExpr x)

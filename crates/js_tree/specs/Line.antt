@@ -8,19 +8,21 @@ use Rattle.js_tree.specs.declared.token.Token.{Token}
 use Rattle.js_tree.specs.declared.tree.Expr.{Expr, out-Expr}
 use Rattle.js_tree.specs.declared.tree.Function.{out-Function}
 use Rattle.js_tree.specs.declared.tree.Key.{out-Key}
-use Rattle.js_tree.specs.declared.tree.Pattern.{Pattern, out-Pattern}
+use Rattle.js_tree.specs.declared.tree.Pattern.{out-Pattern}
 use Rattle.js_tree.specs.declared.tree.PatternProperty.{out-PatternProperty}
 use Rattle.js_tree.specs.declared.tree.Property.{out-Property}
 use Rattle.js_tree.specs.declared.tree.Slot.{out-Slot}
 use Rattle.js_tree.specs.declared.tree.Stmt.{out-Stmt}
-use Rattle.js_tree.specs.Parts.{Node, AnExpr, AFunction, AKey, APattern, APatternProperty, AProperty, AStmt, ASlot, ATail, ABody, ACases, AHandler, NodeWriter, node_of, count, each_tail}
+use Rattle.js_tree.specs.declared.tree.StmtClause.{StmtClause, out-StmtClause}
+use Rattle.js_tree.specs.Parts.{Node, AnExpr, AFunction, AKey, APattern, APatternProperty, AProperty, AStmt, AClause, ASlot, ATail, ABody, ACases, NodeWriter, node_of, count, each_tail}
 use Rattle.js_tree.specs.Pieces.{Onto, tokens}
-use Rattle.js_tree.specs.Spelling.{expr, function, key, pattern, pattern_property, property, stmt, slot, stmt_line, stmts}
+use Rattle.js_tree.specs.Spelling.{expr, function, key, pattern, pattern_property, property, stmt, clause, slot, stmts}
+use Rattle.js_tree.specs.Spelling.Clauses.{clause_row}
 use Rattle.js_tree.specs.Spelling.Expressions.{expr_row}
 use Rattle.js_tree.specs.Spelling.Functions.{function_row}
 use Rattle.js_tree.specs.Spelling.Patterns.{pattern_row, pattern_property_row, slot_row}
 use Rattle.js_tree.specs.Spelling.Properties.{key_row, property_row}
-use Rattle.js_tree.specs.Spelling.Rows.{Marks, each_of, listed_row, maybe, tail_row, case_row, handler_row}
+use Rattle.js_tree.specs.Spelling.Rows.{Marks, each_of, listed_row, maybe, tail_row}
 use Rattle.js_tree.specs.Spelling.Nodes.{pieces}
 use Rattle.js_tree.specs.Spelling.Statements.{stmt_row}
 
@@ -57,11 +59,11 @@ items = record {
   pattern_property = λ x rest. ANode (APatternProperty x) ∷ rest;
   property = λ x rest. ANode (AProperty x) ∷ rest;
   stmt = λ x rest. ANode (AStmt x) ∷ rest;
+  clause = λ x rest. ANode (AClause x) ∷ rest;
   slot = λ x rest. ANode (ASlot x) ∷ rest;
   tails = λ head. tail_items head [];
   body = λ xs rest. ANode (ABody xs) ∷ rest;
   cases = λ xs rest. ANode (ACases xs) ∷ rest;
-  handler = λ x rest. ANode (AHandler x) ∷ rest;
 }
 
 -- items in brackets of any kind
@@ -77,22 +79,22 @@ line_row (APattern x) = pattern_row items (out-Pattern x)
 line_row (APatternProperty x) = pattern_property_row items (out-PatternProperty x)
 line_row (AProperty x) = property_row items (out-Property x)
 line_row (AStmt x) = stmt_row items (out-Stmt x)
+line_row (AClause x) = clause_row items (out-StmtClause x)
 line_row (ASlot x) = slot_row items (out-Slot x)
 line_row (ATail head before t) = tail_row given_marks items.expr t
 line_row (ABody body) = each_of items.stmt body
-line_row (ACases xs) = each_of (case_row given_marks items.expr items.stmt) xs
-line_row (AHandler x) = handler_row given_marks items.pattern items.stmt x
+line_row (ACases xs) = each_of items.clause xs
 
 -- the line of a node
 abbrev pub line_of : Node → List LineItem
 line_of n = line_row n []
 
--- the spelling of an expression as it stands in a tail or a case, and of a pattern
+-- the spelling of an expression as it stands in a tail, and of a case
 abbrev pub expr_line : Expr → Onto
 expr_line x = (expr x).line
 
-abbrev pub pattern_line : Pattern → Onto
-pattern_line x = (pattern x).line
+abbrev pub clause_line : StmtClause → Onto
+clause_line x = (clause x).line
 
 -- the spelling of a node
 abbrev pub spelling_of : Node → Onto
@@ -103,11 +105,11 @@ spelling_of (APattern x) = (pattern x).line
 spelling_of (APatternProperty x) = (pattern_property x).line
 spelling_of (AProperty x) = (property x).line
 spelling_of (AStmt x) = (stmt x).line
+spelling_of (AClause x) = (clause x).line
 spelling_of (ASlot x) = (slot x).line
 spelling_of (ATail head before t) = tail_row pieces expr_line t
 spelling_of (ABody body) = stmts body
-spelling_of (ACases xs) = each_of (case_row pieces expr_line stmt_line) xs
-spelling_of (AHandler x) = handler_row pieces pattern_line stmt_line x
+spelling_of (ACases xs) = each_of clause_line xs
 
 -- the tokens of a node
 unfoldable pub tokens_in : Node → List Token

@@ -1,8 +1,6 @@
 -- The parts of a node of any kind, in the order of the text, and what is gathered from a node and its parts.
 use Rattle.std.specs.Prelude.{ℕ, zero, suc, List, [], ◌∷◌, ◌++◌, map, max, sum, Option, Some, None}
 use Rattle.std.specs.List.{flat_map}
-use Rattle.js_tree.specs.declared.lists.Case.{Case}
-use Rattle.js_tree.specs.declared.lists.Handler.{Handler}
 use Rattle.js_tree.specs.declared.lists.Tail.{Tail}
 use Rattle.js_tree.specs.declared.node.Node.{Node as Given}
 use Rattle.js_tree.specs.declared.node.Node.TheVariants as given
@@ -14,17 +12,19 @@ use Rattle.js_tree.specs.declared.tree.PatternProperty.{PatternProperty, out-Pat
 use Rattle.js_tree.specs.declared.tree.Property.{Property, out-Property}
 use Rattle.js_tree.specs.declared.tree.Slot.{Slot, out-Slot}
 use Rattle.js_tree.specs.declared.tree.Stmt.{Stmt, out-Stmt}
-use Rattle.js_tree.specs.Folds.{Steps, fold_expr, fold_function, fold_key, fold_pattern, fold_pattern_property, fold_property, fold_stmt, fold_slot}
+use Rattle.js_tree.specs.declared.tree.StmtClause.{StmtClause, out-StmtClause}
+use Rattle.js_tree.specs.Folds.{Steps, fold_expr, fold_function, fold_key, fold_pattern, fold_pattern_property, fold_property, fold_stmt, fold_clause, fold_slot}
+use Rattle.js_tree.specs.Spelling.Clauses.{clause_row}
 use Rattle.js_tree.specs.Spelling.Expressions.{expr_row}
 use Rattle.js_tree.specs.Spelling.Functions.{function_row}
 use Rattle.js_tree.specs.Spelling.Patterns.{pattern_row, pattern_property_row, slot_row}
 use Rattle.js_tree.specs.Spelling.Properties.{key_row, property_row}
-use Rattle.js_tree.specs.Spelling.Rows.{Writer, WriterOf, each_of, tail_row, case_row, handler_row}
+use Rattle.js_tree.specs.Spelling.Rows.{Writer, WriterOf, each_of, tail_row}
 use Rattle.js_tree.specs.Spelling.Nodes.{unmarked, over_nodes}
 use Rattle.js_tree.specs.Spelling.Statements.{stmt_row}
 
 -- a node of a tree: one of each type, a tail of a chain or of `new` with the head and the tails before it, statements one
--- after another, the cases of a `switch`, and what is done with an exception
+-- after another, and the cases of a `switch`
 pub data Node : Type 0 where
   AnExpr : Expr → Node
   AFunction : Function → Node
@@ -33,11 +33,11 @@ pub data Node : Type 0 where
   APatternProperty : PatternProperty → Node
   AProperty : Property → Node
   AStmt : Stmt → Node
+  AClause : StmtClause → Node
   ASlot : Slot → Node
   ATail : Expr → List (Tail Expr) → Tail Expr → Node
   ABody : List Stmt → Node
-  ACases : List (Case Expr Stmt) → Node
-  AHandler : Handler Pattern Stmt → Node
+  ACases : List StmtClause → Node
 
 -- the node that is given
 abbrev pub node_of : Given → Node
@@ -48,11 +48,11 @@ node_of (given.Pattern x) = APattern x.now
 node_of (given.PatternProperty x) = APatternProperty x.now
 node_of (given.Property x) = AProperty x.now
 node_of (given.Stmt x) = AStmt x.now
+node_of (given.Clause x) = AClause x.now
 node_of (given.Slot x) = ASlot x.now
 node_of (given.Tail head before tail) = ATail head.now before.now tail.now
 node_of (given.Body x) = ABody x.now
 node_of (given.Cases x) = ACases x.now
-node_of (given.Handler x) = AHandler x.now
 
 -- the tails of a chain as nodes, each with the tails before it, in front of what follows
 abbrev pub each_tail : {R : Type 0} → (Node → R → R) → Expr → List (Tail Expr) → List (Tail Expr) → R → R
@@ -64,7 +64,7 @@ tails_behind = each_tail (λ n rest. n ∷ rest)
 
 -- a use of the rows over the nodes themselves
 abbrev pub NodeWriter : Type 0 → Type 0
-NodeWriter R = Writer Expr Function Key Pattern PatternProperty Property Stmt Slot R
+NodeWriter R = Writer Expr Function Key Pattern PatternProperty Property Stmt StmtClause Slot R
 
 -- the nodes in a row
 abbrev pub nodes : NodeWriter (List Node)
@@ -77,11 +77,11 @@ nodes = record {
   pattern_property = λ x rest. APatternProperty x ∷ rest;
   property = λ x rest. AProperty x ∷ rest;
   stmt = λ x rest. AStmt x ∷ rest;
+  clause = λ x rest. AClause x ∷ rest;
   slot = λ x rest. ASlot x ∷ rest;
   tails = λ head. tails_behind head [];
   body = λ xs rest. ABody xs ∷ rest;
   cases = λ xs rest. ACases xs ∷ rest;
-  handler = λ x rest. AHandler x ∷ rest;
 }
 
 -- the parts of a node, in front of other nodes
@@ -93,11 +93,11 @@ parts_row (APattern x) = pattern_row nodes (out-Pattern x)
 parts_row (APatternProperty x) = pattern_property_row nodes (out-PatternProperty x)
 parts_row (AProperty x) = property_row nodes (out-Property x)
 parts_row (AStmt x) = stmt_row nodes (out-Stmt x)
+parts_row (AClause x) = clause_row nodes (out-StmtClause x)
 parts_row (ASlot x) = slot_row nodes (out-Slot x)
 parts_row (ATail head before t) = tail_row unmarked nodes.expr t
 parts_row (ABody body) = each_of nodes.stmt body
-parts_row (ACases xs) = each_of (case_row unmarked nodes.expr nodes.stmt) xs
-parts_row (AHandler x) = handler_row unmarked nodes.pattern nodes.stmt x
+parts_row (ACases xs) = each_of nodes.clause xs
 
 -- the parts of a node
 abbrev pub parts : Node → List Node
@@ -117,18 +117,19 @@ heights = record {
   pattern_property = λ x. suc (suc (pattern_property_row greatest x 0));
   property = λ x. suc (suc (property_row greatest x 0));
   stmt = λ x. suc (suc (stmt_row greatest x 0));
+  clause = λ x. suc (suc (clause_row greatest x 0));
   slot = λ x. suc (suc (slot_row greatest x 0));
 }
 
--- the greater of a height and that of an expression, of a pattern, or of a statement
+-- the greater of a height and that of an expression, of a statement, or of a clause
 abbrev pub above_expr : Expr → ℕ → ℕ
 above_expr x h = max (fold_expr heights x) h
 
-abbrev pub above_pattern : Pattern → ℕ → ℕ
-above_pattern x h = max (fold_pattern heights x) h
-
 abbrev pub above_stmt : Stmt → ℕ → ℕ
 above_stmt x h = max (fold_stmt heights x) h
+
+abbrev pub above_clause : StmtClause → ℕ → ℕ
+above_clause x h = max (fold_clause heights x) h
 
 -- the height of a node: it falls to each part
 unfoldable pub height : Node → ℕ
@@ -139,11 +140,11 @@ height (APattern x) = fold_pattern heights x
 height (APatternProperty x) = fold_pattern_property heights x
 height (AProperty x) = fold_property heights x
 height (AStmt x) = fold_stmt heights x
+height (AClause x) = fold_clause heights x
 height (ASlot x) = fold_slot heights x
 height (ATail head before t) = suc (tail_row unmarked above_expr t 0)
 height (ABody body) = suc (each_of above_stmt body 0)
-height (ACases xs) = suc (each_of (case_row unmarked above_expr above_stmt) xs 0)
-height (AHandler x) = suc (handler_row unmarked above_pattern above_stmt x 0)
+height (ACases xs) = suc (each_of above_clause xs 0)
 
 -- what is made of a node by a step, from the node and what is made of its parts in their order; to this depth
 abbrev pub folded_to : {A : Type 0} → (Node → List A → A) → ℕ → Node → A

@@ -1,17 +1,17 @@
 //! What stands in lists of the line of a node, in brackets, or may be missing.
-ghost use Rattle.std.specs.Prelude.{◌≡◌, [], ◌∷◌, List, OnOk, true};
+ghost use Rattle.std.specs.Prelude.{◌≡◌, [], ◌∷◌, List, OnOk};
 ghost use Rattle.js_tree.specs.Adds.{Adds};
 ghost use Rattle.js_tree.specs.Line.{AToken, LineItem as GhostItem, given_marks, in_brackets, item_of, items, tail_items};
-ghost use Rattle.js_tree.specs.Spelling.Rows.{arm_row, arrow_params_row, block_row, case_row, each_of, element_row, enclosed_row, for_start_row, guarded_row, init_row, left_row, listed_row, maybe, template_row};
+ghost use Rattle.js_tree.specs.Spelling.Rows.{arm_row, arrow_params_row, block_row, each_of, element_row, enclosed_row, init_row, left_row, listed_row, maybe, template_row};
 
 use crate::line::{LineItem, push_node, push_token};
 use crate::lists::{
-    Arm, ArrowParams, Block, Bracket, Case, Element, Enclosed, ForStart, Further, Guarded, Handler,
-    Init, Left, Listed, Tail, Template,
+    Arm, ArrowParams, Block, Bracket, Element, Enclosed, Further, Init, Left, Listed, Tail,
+    Template,
 };
 use crate::node::Node;
 use crate::token::Token;
-use crate::tree::{Expr, Pattern, PatternProperty, Property, Slot, Stmt};
+use crate::tree::{Expr, Pattern, PatternProperty, Property, Slot, Stmt, StmtClause};
 use jam_base::OutOfMemory;
 use sqlite_items::Boxed;
 
@@ -103,6 +103,14 @@ impl<'t> InLine<'t> for Stmt {
 
     fn push_items(&'t self, out: &mut Vec<LineItem<'t>>) -> Result<(), OutOfMemory> {
         push_node(Node::Stmt(self), out)
+    }
+}
+
+impl<'t> InLine<'t> for StmtClause {
+    ghost put = { items.clause };
+
+    fn push_items(&'t self, out: &mut Vec<LineItem<'t>>) -> Result<(), OutOfMemory> {
+        push_node(Node::Clause(self), out)
     }
 }
 
@@ -231,31 +239,6 @@ impl<'t, X: InLine<'t>> InLine<'t> for Enclosed<X> {
     }
 }
 
-impl<'t, X: InLine<'t>, Y: InLine<'t>> InLine<'t> for Guarded<X, Y> {
-    ghost put = { guarded_row given_marks (λ k. true) X.put Y.put };
-
-    fn push_items(&'t self, out: &mut Vec<LineItem<'t>>) -> Result<(), OutOfMemory> {
-        push_token(&self.word, out)?;
-        self.test.push_items(out)?;
-        self.body.push_items(out)
-    }
-}
-
-impl<'t, X: InLine<'t>, Y: InLine<'t>> InLine<'t> for ForStart<X, Y> {
-    ghost put = { for_start_row given_marks X.put Y.put };
-
-    fn push_items(&'t self, out: &mut Vec<LineItem<'t>>) -> Result<(), OutOfMemory> {
-        match self {
-            ForStart::Vars { word, first, rest } => {
-                push_token(word, out)?;
-                first.push_items(out)?;
-                push_each(rest.as_slice(), out)
-            }
-            ForStart::Value(value) => value.push_items(out),
-        }
-    }
-}
-
 impl<'t, X: InLine<'t>> InLine<'t> for Left<X> {
     ghost put = { left_row given_marks X.put };
 
@@ -267,24 +250,5 @@ impl<'t, X: InLine<'t>> InLine<'t> for Left<X> {
             }
             Left::Target(target) => target.push_items(out),
         }
-    }
-}
-
-impl<'t, X: InLine<'t>, Y: InLine<'t>> InLine<'t> for Case<X, Y> {
-    ghost put = { case_row given_marks X.put Y.put };
-
-    fn push_items(&'t self, out: &mut Vec<LineItem<'t>>) -> Result<(), OutOfMemory> {
-        push_token(&self.word, out)?;
-        self.test.push_items(out)?;
-        push_token(&self.colon, out)?;
-        push_each(self.body.as_slice(), out)
-    }
-}
-
-impl<'t> InLine<'t> for Handler<Pattern, Boxed<Stmt>> {
-    ghost put = { items.handler };
-
-    fn push_items(&'t self, out: &mut Vec<LineItem<'t>>) -> Result<(), OutOfMemory> {
-        push_node(Node::Handler(self), out)
     }
 }

@@ -1,16 +1,16 @@
 //! The nodes in a node that stand in lists, in brackets, or may be missing.
-ghost use Rattle.std.specs.Prelude.{◌≡◌, [], ◌∷◌, List, OnOk, true};
+ghost use Rattle.std.specs.Prelude.{◌≡◌, [], ◌∷◌, List, OnOk};
 ghost use Rattle.js_tree.specs.Adds.{Adds};
 ghost use Rattle.js_tree.specs.Parts.{Node as GhostNode, node_of, nodes, tails_behind};
 ghost use Rattle.js_tree.specs.Spelling.Nodes.{unmarked};
-ghost use Rattle.js_tree.specs.Spelling.Rows.{arm_row, arrow_params_row, block_row, case_row, each_of, element_row, enclosed_row, for_start_row, guarded_row, init_row, left_row, listed_row, maybe, template_row};
+ghost use Rattle.js_tree.specs.Spelling.Rows.{arm_row, arrow_params_row, block_row, each_of, element_row, enclosed_row, init_row, left_row, listed_row, maybe, template_row};
 
 use crate::lists::{
-    Arm, ArrowParams, Block, Bracket, Case, Element, Enclosed, ForStart, Further, Guarded, Handler,
-    Init, Left, Listed, Tail, Template,
+    Arm, ArrowParams, Block, Bracket, Element, Enclosed, Further, Init, Left, Listed, Tail,
+    Template,
 };
 use crate::node::{Node, push};
-use crate::tree::{Expr, Pattern, PatternProperty, Property, Slot, Stmt};
+use crate::tree::{Expr, Pattern, PatternProperty, Property, Slot, Stmt, StmtClause};
 use jam_base::OutOfMemory;
 use sqlite_items::Boxed;
 
@@ -94,6 +94,14 @@ impl<'t> InNode<'t> for Stmt {
 
     fn push_nodes(&'t self, out: &mut Vec<Node<'t>>) -> Result<(), OutOfMemory> {
         push(Node::Stmt(self), out)
+    }
+}
+
+impl<'t> InNode<'t> for StmtClause {
+    ghost put = { nodes.clause };
+
+    fn push_nodes(&'t self, out: &mut Vec<Node<'t>>) -> Result<(), OutOfMemory> {
+        push(Node::Clause(self), out)
     }
 }
 
@@ -209,33 +217,6 @@ impl<'t, X: InNode<'t>> InNode<'t> for Enclosed<X> {
     }
 }
 
-impl<'t, X: InNode<'t>, Y: InNode<'t>> InNode<'t> for Guarded<X, Y> {
-    ghost put = { guarded_row unmarked (λ k. true) X.put Y.put };
-
-    fn push_nodes(&'t self, out: &mut Vec<Node<'t>>) -> Result<(), OutOfMemory> {
-        self.test.push_nodes(out)?;
-        self.body.push_nodes(out)
-    }
-}
-
-impl<'t, X: InNode<'t>, Y: InNode<'t>> InNode<'t> for ForStart<X, Y> {
-    ghost put = { for_start_row unmarked X.put Y.put };
-
-    fn push_nodes(&'t self, out: &mut Vec<Node<'t>>) -> Result<(), OutOfMemory> {
-        match self {
-            ForStart::Vars {
-                word: _,
-                first,
-                rest,
-            } => {
-                first.push_nodes(out)?;
-                push_each(rest.as_slice(), out)
-            }
-            ForStart::Value(value) => value.push_nodes(out),
-        }
-    }
-}
-
 impl<'t, X: InNode<'t>> InNode<'t> for Left<X> {
     ghost put = { left_row unmarked X.put };
 
@@ -244,22 +225,5 @@ impl<'t, X: InNode<'t>> InNode<'t> for Left<X> {
             Left::Vars { word: _, target } => target.push_nodes(out),
             Left::Target(target) => target.push_nodes(out),
         }
-    }
-}
-
-impl<'t, X: InNode<'t>, Y: InNode<'t>> InNode<'t> for Case<X, Y> {
-    ghost put = { case_row unmarked X.put Y.put };
-
-    fn push_nodes(&'t self, out: &mut Vec<Node<'t>>) -> Result<(), OutOfMemory> {
-        self.test.push_nodes(out)?;
-        push_each(self.body.as_slice(), out)
-    }
-}
-
-impl<'t> InNode<'t> for Handler<Pattern, Boxed<Stmt>> {
-    ghost put = { nodes.handler };
-
-    fn push_nodes(&'t self, out: &mut Vec<Node<'t>>) -> Result<(), OutOfMemory> {
-        push(Node::Handler(self), out)
     }
 }

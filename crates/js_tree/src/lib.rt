@@ -23,14 +23,16 @@ mod walk;
 
 pub use level::{Level, admits, is_target};
 pub use lists::{
-    Arm, ArrowParams, Block, Bracket, Case, Element, Enclosed, ForStart, Further, Guarded, Handler,
-    Init, Left, Listed, Tail, Template,
+    Arm, ArrowParams, Block, Bracket, Element, Enclosed, Further, Init, Left, Listed, Tail,
+    Template,
 };
 pub use node::{Node, push_parts};
 pub use part::{EscapePart, NumberPart, RegexPart, StringPart, TemplatePart, TriviaPart};
 pub use spelling::spell;
 pub use token::{Token, TokenClass};
 pub use token_kind::TokenKind;
-pub use tree::{Expr, Function, Key, Pattern, PatternProperty, Property, Slot, Stmt, Tree};
+pub use tree::{
+    Expr, Function, Key, Pattern, PatternProperty, Property, Slot, Stmt, StmtClause, Tree,
+};
 pub use value::string_value;
 pub use walk::{Gather, walk_tree};

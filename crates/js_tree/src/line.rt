@@ -2,14 +2,16 @@
 ghost use Rattle.std.specs.Prelude.{◌≡◌, ◌++◌, ◌∷◌, map, OnOk};
 ghost use Rattle.js_tree.specs.Adds.{Adds};
 ghost use Rattle.js_tree.specs.Line.{AToken, ANode, given_marks, item_of, items, line_of, line_row};
-ghost use Rattle.js_tree.specs.Parts.{AnExpr, AFunction, AKey, APattern, APatternProperty, AProperty, AStmt, ASlot, node_of};
-ghost use Rattle.js_tree.specs.Spelling.Rows.{handler_row, tail_row};
+ghost use Rattle.js_tree.specs.Parts.{AnExpr, AClause, AFunction, AKey, APattern, APatternProperty, AProperty, AStmt, ASlot, node_of};
+ghost use Rattle.js_tree.specs.Spelling.Rows.{tail_row};
 
 use crate::in_line::{InLine, push_each, push_tails};
-use crate::lists::{Handler, Tail};
+use crate::lists::Tail;
 use crate::node::Node;
 use crate::token::Token;
-use crate::tree::{Expr, Function, Key, Pattern, PatternProperty, Property, Slot, Stmt};
+use crate::tree::{
+    Expr, Function, Key, Pattern, PatternProperty, Property, Slot, Stmt, StmtClause,
+};
 use jam_base::OutOfMemory;
 use sqlite_items::Boxed;
 
@@ -43,6 +45,7 @@ fn push_row<'t>(node: Node<'t>, out: &mut Vec<LineItem<'t>>) -> Result<(), OutOf
         Node::PatternProperty(property) => push_pattern_property(property, out),
         Node::Property(property) => push_property(property, out),
         Node::Stmt(statement) => push_stmt(statement, out),
+        Node::Clause(clause) => push_clause(clause, out),
         Node::Slot(slot) => push_slot(slot, out),
         Node::Tail {
             head: _,
@@ -51,7 +54,6 @@ fn push_row<'t>(node: Node<'t>, out: &mut Vec<LineItem<'t>>) -> Result<(), OutOf
         } => push_tail(tail, out),
         Node::Body(body) => push_each(body, out),
         Node::Cases(cases) => push_each(cases, out),
-        Node::Handler(handler) => push_handler(handler, out),
     }
 }
 
@@ -274,7 +276,11 @@ fn push_stmt<'t>(statement: &'t Stmt, out: &mut Vec<LineItem<'t>>) -> Result<(),
             test.push_items(out)?;
             semi.push_items(out)
         }
-        Stmt::While { guarded } => guarded.push_items(out),
+        Stmt::While { word, test, body } => {
+            push_token(word, out)?;
+            test.push_items(out)?;
+            push_node(Node::Stmt(body.get()), out)
+        }
         Stmt::For {
             word,
             open,
@@ -382,6 +388,41 @@ fn push_stmt<'t>(statement: &'t Stmt, out: &mut Vec<LineItem<'t>>) -> Result<(),
     }
 }
 
+fn push_clause<'t>(clause: &'t StmtClause, out: &mut Vec<LineItem<'t>>) -> Result<(), OutOfMemory>
+    ensures { OnOk result (Adds item_of (line_row (AClause clause.now))
+        out.old.items out.new.items) }
+{
+    match clause {
+        StmtClause::Guarded { word, test, body } => {
+            push_token(word, out)?;
+            test.push_items(out)?;
+            push_node(Node::Stmt(body.get()), out)
+        }
+        StmtClause::Case {
+            word,
+            test,
+            colon,
+            body,
+        } => {
+            push_token(word, out)?;
+            test.push_items(out)?;
+            push_token(colon, out)?;
+            push_each(body.as_slice(), out)
+        }
+        StmtClause::Catch { word, target, body } => {
+            push_token(word, out)?;
+            target.push_items(out)?;
+            push_node(Node::Stmt(body.get()), out)
+        }
+        StmtClause::Declared { word, first, rest } => {
+            push_token(word, out)?;
+            push_node(Node::Slot(first), out)?;
+            push_each(rest.as_slice(), out)
+        }
+        StmtClause::Value { value } => push_node(Node::Expr(value.get()), out),
+    }
+}
+
 fn push_slot<'t>(slot: &'t Slot, out: &mut Vec<LineItem<'t>>) -> Result<(), OutOfMemory>
     ensures { OnOk result (Adds item_of (line_row (ASlot slot.now)) out.old.items out.new.items) }
 {
@@ -409,18 +450,6 @@ fn push_tail<'t>(
         Tail::Call(arguments) => arguments.push_items(out),
         Tail::Template(template) => template.push_items(out),
     }
-}
-
-fn push_handler<'t>(
-    handler: &'t Handler<Pattern, Boxed<Stmt>>,
-    out: &mut Vec<LineItem<'t>>,
-) -> Result<(), OutOfMemory>
-    ensures { OnOk result (Adds item_of (handler_row given_marks items.pattern items.stmt handler.now)
-        out.old.items out.new.items) }
-{
-    push_token(&handler.word, out)?;
-    handler.target.push_items(out)?;
-    handler.body.push_items(out)
 }
 
 /// Adds a token.

@@ -129,33 +129,6 @@ pub struct Enclosed<T> {
     pub close: Token,
 }
 
-/// A test and the statement where it holds (ECMA-262, 13.6 and 13.7).
-#[derive(Debug, Drop)]
-pub struct Guarded<E, S> {
-    /// `if` or `while`
-    pub word: Token,
-    /// The test.
-    pub test: Enclosed<E>,
-    /// The statement.
-    pub body: S,
-}
-
-/// What a loop with a step begins with (ECMA-262, 13.7.4).
-#[derive(Debug, Drop)]
-pub enum ForStart<E, L> {
-    /// The declaration of variables.
-    Vars {
-        /// `var`, `let` or `const`
-        word: Token,
-        /// What is declared first.
-        first: L,
-        /// The others, each with its comma.
-        rest: Items<Further<L>>,
-    },
-    /// An expression.
-    Value(E),
-}
-
 /// What a loop assigns to in each turn (ECMA-262, 13.7.5).
 #[derive(Debug, Drop)]
 pub enum Left<P> {
@@ -168,28 +141,4 @@ pub enum Left<P> {
     },
     /// What stands already.
     Target(P),
-}
-
-/// A case of a choice by a value (ECMA-262, 13.12).
-#[derive(Debug, Drop)]
-pub struct Case<E, S> {
-    /// `case` or `default`
-    pub word: Token,
-    /// The value of a `case`.
-    pub test: Option<E>,
-    /// `:`
-    pub colon: Token,
-    /// The statements.
-    pub body: Items<S>,
-}
-
-/// What is done with an exception (ECMA-262, 13.15).
-#[derive(Debug, Drop)]
-pub struct Handler<P, S> {
-    /// `catch`
-    pub word: Token,
-    /// What the exception is bound to.
-    pub target: Option<Enclosed<P>>,
-    /// The statements, as a block.
-    pub body: S,
 }

@@ -1,13 +1,15 @@
 //! Nodes of any kind, and their parts.
 ghost use Rattle.std.specs.Prelude.{◌≡◌, ◌++◌, ◌∷◌, map, OnOk};
 ghost use Rattle.js_tree.specs.Adds.{Adds};
-ghost use Rattle.js_tree.specs.Parts.{AnExpr, AFunction, AKey, APattern, APatternProperty, AProperty, AStmt, ASlot, node_of, nodes, parts, parts_row};
-ghost use Rattle.js_tree.specs.Spelling.Rows.{handler_row, tail_row};
+ghost use Rattle.js_tree.specs.Parts.{AnExpr, AClause, AFunction, AKey, APattern, APatternProperty, AProperty, AStmt, ASlot, node_of, nodes, parts, parts_row};
+ghost use Rattle.js_tree.specs.Spelling.Rows.{tail_row};
 ghost use Rattle.js_tree.specs.Spelling.Nodes.{unmarked};
 
 use crate::in_node::{InNode, push_each, push_tails};
-use crate::lists::{Case, Handler, Tail};
-use crate::tree::{Expr, Function, Key, Pattern, PatternProperty, Property, Slot, Stmt};
+use crate::lists::Tail;
+use crate::tree::{
+    Expr, Function, Key, Pattern, PatternProperty, Property, Slot, Stmt, StmtClause,
+};
 use jam_base::OutOfMemory;
 use sqlite_items::Boxed;
 
@@ -28,6 +30,8 @@ pub enum Node<'t> {
     Property(&'t Property),
     /// A statement.
     Stmt(&'t Stmt),
+    /// A clause of a statement.
+    Clause(&'t StmtClause),
     /// A slot.
     Slot(&'t Slot),
     /// A tail of a chain, or of what `new` makes.
@@ -41,10 +45,8 @@ pub enum Node<'t> {
     },
     /// Statements one after another.
     Body(&'t [Stmt]),
-    /// The cases of a choice by a value.
-    Cases(&'t [Case<Boxed<Expr>, Stmt>]),
-    /// What is done with an exception.
-    Handler(&'t Handler<Pattern, Boxed<Stmt>>),
+    /// The cases of a `switch`.
+    Cases(&'t [StmtClause]),
 }
 
 /// Adds the parts of a node, in the order of the text.
@@ -68,6 +70,7 @@ fn push_row<'t>(node: Node<'t>, out: &mut Vec<Node<'t>>) -> Result<(), OutOfMemo
         Node::PatternProperty(property) => push_in_pattern_property(property, out),
         Node::Property(property) => push_in_property(property, out),
         Node::Stmt(statement) => push_in_stmt(statement, out),
+        Node::Clause(clause) => push_in_clause(clause, out),
         Node::Slot(slot) => push_in_slot(slot, out),
         Node::Tail {
             head: _,
@@ -76,7 +79,6 @@ fn push_row<'t>(node: Node<'t>, out: &mut Vec<Node<'t>>) -> Result<(), OutOfMemo
         } => push_in_tail(tail, out),
         Node::Body(body) => push_each(body, out),
         Node::Cases(cases) => push_each(cases, out),
-        Node::Handler(handler) => push_in_handler(handler, out),
     }
 }
 
@@ -287,7 +289,14 @@ fn push_in_stmt<'t>(statement: &'t Stmt, out: &mut Vec<Node<'t>>) -> Result<(), 
             push(Node::Stmt(body.get()), out)?;
             test.push_nodes(out)
         }
-        Stmt::While { guarded } => guarded.push_nodes(out),
+        Stmt::While {
+            word: _,
+            test,
+            body,
+        } => {
+            test.push_nodes(out)?;
+            push(Node::Stmt(body.get()), out)
+        }
         Stmt::For {
             word: _,
             open: _,
@@ -375,6 +384,48 @@ fn push_in_stmt<'t>(statement: &'t Stmt, out: &mut Vec<Node<'t>>) -> Result<(), 
     }
 }
 
+fn push_in_clause<'t>(clause: &'t StmtClause, out: &mut Vec<Node<'t>>) -> Result<(), OutOfMemory>
+    ensures { OnOk result (Adds node_of (parts_row (AClause clause.now))
+        out.old.items out.new.items) }
+{
+    match clause {
+        StmtClause::Guarded {
+            word: _,
+            test,
+            body,
+        } => {
+            test.push_nodes(out)?;
+            push(Node::Stmt(body.get()), out)
+        }
+        StmtClause::Case {
+            word: _,
+            test,
+            colon: _,
+            body,
+        } => {
+            test.push_nodes(out)?;
+            push_each(body.as_slice(), out)
+        }
+        StmtClause::Catch {
+            word: _,
+            target,
+            body,
+        } => {
+            target.push_nodes(out)?;
+            push(Node::Stmt(body.get()), out)
+        }
+        StmtClause::Declared {
+            word: _,
+            first,
+            rest,
+        } => {
+            push(Node::Slot(first), out)?;
+            push_each(rest.as_slice(), out)
+        }
+        StmtClause::Value { value } => push(Node::Expr(value.get()), out),
+    }
+}
+
 fn push_in_slot<'t>(slot: &'t Slot, out: &mut Vec<Node<'t>>) -> Result<(), OutOfMemory>
     ensures { OnOk result (Adds node_of (parts_row (ASlot slot.now)) out.old.items out.new.items) }
 {
@@ -396,17 +447,6 @@ fn push_in_tail<'t>(tail: &'t Tail<Boxed<Expr>>, out: &mut Vec<Node<'t>>) -> Res
         Tail::Call(arguments) => arguments.push_nodes(out),
         Tail::Template(template) => template.push_nodes(out),
     }
-}
-
-fn push_in_handler<'t>(
-    handler: &'t Handler<Pattern, Boxed<Stmt>>,
-    out: &mut Vec<Node<'t>>,
-) -> Result<(), OutOfMemory>
-    ensures { OnOk result (Adds node_of (handler_row unmarked nodes.pattern nodes.stmt handler.now)
-        out.old.items out.new.items) }
-{
-    handler.target.push_nodes(out)?;
-    handler.body.push_nodes(out)
 }
 
 /// Adds a node.

@@ -16,7 +16,7 @@ use Rattle.js_tree.specs.Spelling.Nodes.{Seen, Ending, AfterOperand, AfterUpdate
 
 -- SPELLING, one line for each kind
 
-abbrev pub expr_row : {E F K P Q O S L R : Type 0} → Writer E F K P Q O S L R → Expr-F E F K P Q O S L → R → R
+abbrev pub expr_row : {E F K P Q O S C L R : Type 0} → Writer E F K P Q O S C L R → Expr-F E F K P Q O S C L → R → R
 expr_row w (Expr-F.«Expr::Name» t) rest = mark w.marks kind.Name t rest
 expr_row w (Expr-F.This t) rest = mark w.marks kind.This t rest
 expr_row w (Expr-F.Literal t) rest = w.marks.token is_literal t rest

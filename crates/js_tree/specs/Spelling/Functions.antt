@@ -15,7 +15,7 @@ use Rattle.js_tree.specs.Spelling.Nodes.{Seen, Ending, AfterOperand, AfterBlock,
 
 -- SPELLING, one line for each kind
 
-abbrev pub function_row : {E F K P Q O S L R : Type 0} → Writer E F K P Q O S L R → Function-F E F K P Q O S L → R → R
+abbrev pub function_row : {E F K P Q O S C L R : Type 0} → Writer E F K P Q O S C L R → Function-F E F K P Q O S C L → R → R
 function_row w (Function-F.Keyword word name params body) rest =
     mark w.marks kind.Function word (may_mark w.marks kind.Name name (round_row w.marks w.slot params (block_row w.marks w.body body rest)))
 function_row w (Function-F.Arrow params arrow value) rest =

@@ -8,7 +8,7 @@ use Rattle.js_tree.specs.declared.lists.Bracket.{Bracket}
 use Rattle.js_tree.specs.declared.lists.Element.{Element}
 use Rattle.js_tree.specs.declared.lists.Further.{Further}
 use Rattle.js_tree.specs.Pieces.{Piece, Tok, Must, Ahead, Onto}
-use Rattle.js_tree.specs.Spelling.Rows.{Marks, WriterOf, each_of, maybe, tail_row, case_row, handler_row}
+use Rattle.js_tree.specs.Spelling.Rows.{Marks, WriterOf, each_of, maybe, tail_row}
 
 -- with what an expression ends: an operand, `++` or `--` behind a target, the body of an arrow in braces, or what is declared
 -- and given nothing; or a statement without one, a word or a label
@@ -22,7 +22,8 @@ pub data Ending : Type 0 where
 -- what a node is to the nodes around it:
 -- its spelling;
 -- how tightly an expression or a function holds together (below); of a pattern, a slot and a property in a pattern, 1 where it
--- may be assigned to, 2 where it may be declared too; of a statement, 1 where it is a block, and 2 where it is a choice by tests;
+-- may be assigned to, 2 where it may be declared too; of a statement, 1 where it is a block, and 2 where it is an `if`; of a clause,
+-- 1 where it is an arm of an `if`, 2 a `case`, 3 a `default`, 4 a `catch`, and 5 what a `for` begins with;
 -- with what its last expression ends;
 -- that a node is as it must be whose own line doesn't say so, since its tokens may turn out to be those of another node;
 -- that it may be assigned to by every operator; of a slot, that it is given nothing; of a property in a pattern, that it isn't
@@ -175,11 +176,11 @@ lines = record {
   pattern_property = seen_line;
   property = seen_line;
   stmt = seen_line;
+  clause = seen_line;
   slot = seen_line;
   tails = λ head. each_of (tail_row pieces seen_line);
   body = each_of seen_line;
-  cases = each_of (case_row pieces seen_line seen_line);
-  handler = handler_row pieces seen_line seen_line;
+  cases = each_of seen_line;
 }
 
 -- something of the nodes in it alone
@@ -196,11 +197,11 @@ over_nodes put = record {
   pattern_property = put;
   property = put;
   stmt = put;
+  clause = put;
   slot = put;
   tails = λ head. each_of (tail_row unmarked put);
   body = each_of put;
-  cases = each_of (case_row unmarked put put);
-  handler = handler_row unmarked put put;
+  cases = each_of put;
 }
 
 -- the height of the highest

@@ -14,19 +14,19 @@ use Rattle.js_tree.specs.Spelling.Nodes.{Seen, Ending, AfterOperand, AfterName, 
 
 -- SPELLING, one line for each kind
 
-abbrev pub pattern_row : {E F K P Q O S L R : Type 0} → Writer E F K P Q O S L R → Pattern-F E F K P Q O S L → R → R
+abbrev pub pattern_row : {E F K P Q O S C L R : Type 0} → Writer E F K P Q O S C L R → Pattern-F E F K P Q O S C L → R → R
 pattern_row w (Pattern-F.«Pattern::Name» t) rest = mark w.marks kind.Name t rest
 pattern_row w (Pattern-F.Member chain) rest = w.expr chain rest
 pattern_row w (Pattern-F.«Pattern::Paren» begin inner end) rest = mark w.marks kind.LeftParen begin (w.pattern inner (mark w.marks kind.RightParen end rest))
 pattern_row w (Pattern-F.«Pattern::Array» slots) rest = array_row w.marks w.slot slots rest
 pattern_row w (Pattern-F.«Pattern::Object» properties) rest = object_row w.marks w.pattern_property properties rest
 
-abbrev pub pattern_property_row : {E F K P Q O S L R : Type 0} → Writer E F K P Q O S L R → PatternProperty-F E F K P Q O S L → R → R
+abbrev pub pattern_property_row : {E F K P Q O S C L R : Type 0} → Writer E F K P Q O S C L R → PatternProperty-F E F K P Q O S C L → R → R
 pattern_property_row w (PatternProperty-F.Keyed key colon slot) rest = w.key key (mark w.marks kind.Colon colon (w.slot slot rest))
 pattern_property_row w (PatternProperty-F.Named slot) rest = w.slot slot rest
 pattern_property_row w (PatternProperty-F.Rest dots slot) rest = mark w.marks kind.Dots dots (w.slot slot rest)
 
-abbrev pub slot_row : {E F K P Q O S L R : Type 0} → Writer E F K P Q O S L R → Slot-F E F K P Q O S L → R → R
+abbrev pub slot_row : {E F K P Q O S C L R : Type 0} → Writer E F K P Q O S C L R → Slot-F E F K P Q O S C L → R → R
 slot_row w x rest = w.pattern x.target (maybe (init_row w.marks w.expr) x.init rest)
 
 -- the ranks of patterns: what may be assigned to, and what may be declared too

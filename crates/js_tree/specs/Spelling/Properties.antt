@@ -9,11 +9,11 @@ use Rattle.js_tree.specs.Spelling.Nodes.{Seen, AfterOperand, ASSIGN, stands, lin
 
 -- SPELLING, one line for each kind
 
-abbrev pub key_row : {E F K P Q O S L R : Type 0} → Writer E F K P Q O S L R → Key-F E F K P Q O S L → R → R
+abbrev pub key_row : {E F K P Q O S C L R : Type 0} → Writer E F K P Q O S C L R → Key-F E F K P Q O S C L → R → R
 key_row w (Key-F.Fixed t) rest = w.marks.token is_key t rest
 key_row w (Key-F.Computed begin value end) rest = mark w.marks kind.LeftBracket begin (w.expr value (mark w.marks kind.RightBracket end rest))
 
-abbrev pub property_row : {E F K P Q O S L R : Type 0} → Writer E F K P Q O S L R → Property-F E F K P Q O S L → R → R
+abbrev pub property_row : {E F K P Q O S C L R : Type 0} → Writer E F K P Q O S C L R → Property-F E F K P Q O S C L → R → R
 property_row w (Property-F.Pair key colon value) rest = w.key key (mark w.marks kind.Colon colon (w.expr value rest))
 property_row w (Property-F.Shorthand value) rest = w.expr value rest
 property_row w (Property-F.Spread dots value) rest = mark w.marks kind.Dots dots (w.expr value rest)

@@ -5,14 +5,9 @@ use Rattle.js_tree.specs.declared.lists.ArrowParams.{ArrowParams}
 use Rattle.js_tree.specs.declared.lists.ArrowParams.TheVariants as shape
 use Rattle.js_tree.specs.declared.lists.Block.{Block}
 use Rattle.js_tree.specs.declared.lists.Bracket.{Bracket}
-use Rattle.js_tree.specs.declared.lists.Case.{Case}
 use Rattle.js_tree.specs.declared.lists.Element.{Element}
 use Rattle.js_tree.specs.declared.lists.Enclosed.{Enclosed}
-use Rattle.js_tree.specs.declared.lists.ForStart.{ForStart}
-use Rattle.js_tree.specs.declared.lists.ForStart.TheVariants as start
 use Rattle.js_tree.specs.declared.lists.Further.{Further}
-use Rattle.js_tree.specs.declared.lists.Guarded.{Guarded}
-use Rattle.js_tree.specs.declared.lists.Handler.{Handler}
 use Rattle.js_tree.specs.declared.lists.Init.{Init}
 use Rattle.js_tree.specs.declared.lists.Left.{Left}
 use Rattle.js_tree.specs.declared.lists.Left.TheVariants as left
@@ -33,9 +28,8 @@ pub record Marks (R : Type 0) : Type 0 where
   pub ahead : (TokenKind → Bool → Bool) → R → R
 
 -- the same of nodes: of an expression, a function, a key, a pattern, a property in a pattern, one of an object, a
--- statement, a slot, and of the tails behind a head, of statements in braces, of the cases of a `switch`, and of what is done with
--- an exception
-pub record Writer (E F K P Q O S L R : Type 0) : Type 0 where
+-- statement, a clause, a slot, and of the tails behind a head, of statements in braces, and of the cases of a `switch`
+pub record Writer (E F K P Q O S C L R : Type 0) : Type 0 where
   pub marks : Marks R
   pub expr : E → R → R
   pub function : F → R → R
@@ -44,15 +38,15 @@ pub record Writer (E F K P Q O S L R : Type 0) : Type 0 where
   pub pattern_property : Q → R → R
   pub property : O → R → R
   pub stmt : S → R → R
+  pub clause : C → R → R
   pub slot : L → R → R
   pub tails : E → List (Tail E) → R → R
   pub body : List S → R → R
-  pub cases : List (Case E S) → R → R
-  pub handler : Handler P S → R → R
+  pub cases : List C → R → R
 
 -- the same where all nodes are of one type
 abbrev pub WriterOf : Type 0 → Type 0 → Type 0
-WriterOf A R = Writer A A A A A A A A R
+WriterOf A R = Writer A A A A A A A A A R
 
 -- a token of this kind
 abbrev pub mark : {R : Type 0} → Marks R → TokenKind → Token → R → R
@@ -150,15 +144,6 @@ block_row m put b rest = mark m kind.LeftBrace b.begin (put b.body (mark m kind.
 abbrev pub enclosed_row : {X R : Type 0} → Marks R → (X → R → R) → Enclosed X → R → R
 enclosed_row m put x rest = mark m kind.LeftParen x.«open» (put x.item (mark m kind.RightParen x.close rest))
 
--- a word, a test and a statement (ECMA-262, 13.6 and 13.7.3)
-abbrev pub guarded_row : {X Y R : Type 0} → Marks R → (TokenKind → Bool) → (X → R → R) → (Y → R → R) → Guarded X Y → R → R
-guarded_row m word test body x rest = m.token word x.word (enclosed_row m test x.test (body x.body rest))
-
--- what a loop with a step begins with (ECMA-262, 13.7.4)
-abbrev pub for_start_row : {X Y R : Type 0} → Marks R → (X → R → R) → (Y → R → R) → ForStart X Y → R → R
-for_start_row m value slot (start.Vars word first others) rest = m.token is_declarator word (slot first (each_of (further_row m slot (is kind.Comma)) others rest))
-for_start_row m value slot (start.Value x) rest = value x rest
-
 -- what a loop assigns to (ECMA-262, 13.7.5)
 abbrev pub left_row : {X R : Type 0} → Marks R → (X → R → R) → Left X → R → R
 left_row m put (left.Vars word target) rest = m.token is_declarator word (put target rest)
@@ -168,11 +153,3 @@ left_row m put (left.Target target) rest = put target rest
 abbrev pub case_word : {X : Type 0} → Option X → TokenKind → Bool
 case_word None = is kind.Default
 case_word (Some x) = is kind.Case
-
--- `case` and a value, or `default`, `:`, and statements (ECMA-262, 13.12)
-abbrev pub case_row : {X Y R : Type 0} → Marks R → (X → R → R) → (Y → R → R) → Case X Y → R → R
-case_row m test body x rest = m.token (case_word x.test) x.word (maybe test x.test (mark m kind.Colon x.colon (each_of body x.body rest)))
-
--- `catch`, what an exception is bound to, and a statement (ECMA-262, 13.15)
-abbrev pub handler_row : {X Y R : Type 0} → Marks R → (X → R → R) → (Y → R → R) → Handler X Y → R → R
-handler_row m target body x rest = mark m kind.Catch x.word (maybe (enclosed_row m target) x.target (body x.body rest))

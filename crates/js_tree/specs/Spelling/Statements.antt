@@ -1,12 +1,7 @@
 -- Statements (ECMA-262, clause 13): of what each is made up, and what is asked of it.
-use Rattle.std.specs.Prelude.{ℕ, suc, ◌+◌, ◌==◌, nat_le, max, List, [], ◌∷◌, codes, Option, Some, None, is_some, Bool, true, false, ◌&&◌, ◌||◌, not, if◌then◌else◌}
+use Rattle.std.specs.Prelude.{ℕ, suc, ◌+◌, ◌==◌, nat_le, List, [], ◌∷◌, codes, Option, Some, None, is_some, Bool, true, false, ◌&&◌, ◌||◌, not, if◌then◌else◌}
 use Rattle.std.specs.List.{list_all}
 use Rattle.std.specs.Str.{bytes_eq}
-use Rattle.js_tree.specs.declared.lists.Case.{Case}
-use Rattle.js_tree.specs.declared.lists.ForStart.{ForStart}
-use Rattle.js_tree.specs.declared.lists.ForStart.TheVariants as start
-use Rattle.js_tree.specs.declared.lists.Guarded.{Guarded}
-use Rattle.js_tree.specs.declared.lists.Handler.{Handler}
 use Rattle.js_tree.specs.declared.lists.Left.{Left}
 use Rattle.js_tree.specs.declared.lists.Left.TheVariants as left
 use Rattle.js_tree.specs.declared.token.Token.{Token}
@@ -16,27 +11,27 @@ use Rattle.js_tree.specs.Folds.{StmtOf}
 use Rattle.js_tree.specs.Operators.{begins_plain, is_declarator, is_jump, on_line}
 use Rattle.js_tree.specs.Pieces.{Ahead, Onto}
 use Rattle.js_tree.specs.TokenKinds.{is}
+use Rattle.js_tree.specs.Spelling.Clauses.{BLOCK, IF, GUARD, CASE, DEFAULT, CATCH, START, is_block, declaration_fits}
 use Rattle.js_tree.specs.Spelling.Ends.{may_end, no_else, no_semicolon}
 use Rattle.js_tree.specs.Spelling.Patterns.{DECLARED}
-use Rattle.js_tree.specs.Spelling.Rows.{Writer, mark, may_mark, each_of, maybe, further_row, block_row, enclosed_row, guarded_row, for_start_row, left_row}
+use Rattle.js_tree.specs.Spelling.Rows.{Writer, mark, may_mark, each_of, maybe, further_row, block_row, enclosed_row, left_row}
 use Rattle.js_tree.specs.Spelling.Nodes.{Seen, Ending, AfterOperand, AfterWord, ASSIGN, stands, passes, all_further, last_ending, is_named, musts, lines, highest_of, some_has}
 
 -- SPELLING, one line for each kind
 
-abbrev pub stmt_row : {E F K P Q O S L R : Type 0} → Writer E F K P Q O S L R → Stmt-F E F K P Q O S L → R → R
+abbrev pub stmt_row : {E F K P Q O S C L R : Type 0} → Writer E F K P Q O S C L R → Stmt-F E F K P Q O S C L → R → R
 stmt_row w (Stmt-F.«Stmt::Block» block) rest = block_row w.marks w.body block rest
 stmt_row w (Stmt-F.Vars word first others semi) rest =
     w.marks.token is_declarator word (w.slot first (each_of (further_row w.marks w.slot (is kind.Comma)) others (may_mark w.marks kind.Semicolon semi rest)))
 stmt_row w (Stmt-F.Empty semi) rest = mark w.marks kind.Semicolon semi rest
 stmt_row w (Stmt-F.Plain value semi) rest = w.marks.ahead begins_plain (w.expr value (may_mark w.marks kind.Semicolon semi rest))
 stmt_row w (Stmt-F.If first others last) rest =
-    guarded_row w.marks (is kind.If) w.expr w.stmt first
-    (each_of (further_row w.marks (guarded_row w.marks (is kind.If) w.expr w.stmt) (is kind.Else)) others (maybe (further_row w.marks w.stmt (is kind.Else)) last rest))
+    w.clause first (each_of (further_row w.marks w.clause (is kind.Else)) others (maybe (further_row w.marks w.stmt (is kind.Else)) last rest))
 stmt_row w (Stmt-F.Do word body again test semi) rest =
     mark w.marks kind.Do word (w.stmt body (mark w.marks kind.While again (enclosed_row w.marks w.expr test (may_mark w.marks kind.Semicolon semi rest))))
-stmt_row w (Stmt-F.While guarded) rest = guarded_row w.marks (is kind.While) w.expr w.stmt guarded rest
+stmt_row w (Stmt-F.While word test body) rest = mark w.marks kind.While word (enclosed_row w.marks w.expr test (w.stmt body rest))
 stmt_row w (Stmt-F.For word begin start first test second step end body) rest =
-    mark w.marks kind.For word (mark w.marks kind.LeftParen begin (maybe (for_start_row w.marks w.expr w.slot) start
+    mark w.marks kind.For word (mark w.marks kind.LeftParen begin (maybe w.clause start
     (mark w.marks kind.Semicolon first (maybe w.expr test
     (mark w.marks kind.Semicolon second (maybe w.expr step (mark w.marks kind.RightParen end (w.stmt body rest))))))))
 stmt_row w (Stmt-F.ForIn word begin left mark_ value end body) rest =
@@ -53,28 +48,12 @@ stmt_row w (Stmt-F.Throw word value semi) rest = mark w.marks kind.Throw word (w
 stmt_row w (Stmt-F.Switch word value begin cases end) rest =
     mark w.marks kind.Switch word (enclosed_row w.marks w.expr value (mark w.marks kind.LeftBrace begin (w.cases cases (mark w.marks kind.RightBrace end rest))))
 stmt_row w (Stmt-F.Try word body handler last) rest =
-    mark w.marks kind.Try word (w.stmt body (maybe w.handler handler (maybe (further_row w.marks w.stmt (is kind.Finally)) last rest)))
+    mark w.marks kind.Try word (w.stmt body (maybe w.clause handler (maybe (further_row w.marks w.stmt (is kind.Finally)) last rest)))
 stmt_row w (Stmt-F.Label name colon body) rest = mark w.marks kind.Name name (mark w.marks kind.Colon colon (w.stmt body rest))
 stmt_row w (Stmt-F.Debugger word semi) rest = mark w.marks kind.Debugger word (may_mark w.marks kind.Semicolon semi rest)
 stmt_row w (Stmt-F.«Stmt::Fun» function) rest = w.function function rest
 
 -- CONDITIONS
-
--- what is declared may be, and the pattern of an array or an object is given something
-abbrev pub declaration_fits : Seen → Bool
-declaration_fits x = stands DECLARED x && (is_some x.name || not x.is_target)
-
--- the same where no operator `in` may stand
-abbrev pub start_declaration_fits : Seen → Bool
-start_declaration_fits x = declaration_fits x && not x.joins_in
-
--- a test is a Comma
-abbrev pub guarded_fits : Guarded Seen Seen → Bool
-guarded_fits x = stands 0 x.test.item
-
-abbrev pub for_start_fits : ForStart Seen Seen → Bool
-for_start_fits (start.Vars word first others) = start_declaration_fits first && all_further start_declaration_fits others
-for_start_fits (start.Value x) = stands 0 x && not x.joins_in
 
 abbrev pub left_fits : Left Seen → Bool
 left_fits (left.Vars word target) = stands DECLARED target
@@ -85,43 +64,34 @@ abbrev pub is_async : Left Seen → Bool
 is_async (left.Vars word target) = false
 is_async (left.Target target) = is_named (codes "async") target
 
-abbrev pub case_fits : Case Seen Seen → Bool
-case_fits x = passes (stands 0) x.test
+-- the clause is of this rank
+abbrev pub is_ranked : ℕ → Seen → Bool
+is_ranked rank x = x.rank == rank
 
--- how many cases have no value
-abbrev pub defaults : List (Case Seen Seen) → ℕ
+-- the clause is a `case` or a `default`
+abbrev pub is_case : Seen → Bool
+is_case x = is_ranked CASE x || is_ranked DEFAULT x
+
+-- how many clauses are a `default`
+abbrev pub defaults : List Seen → ℕ
 defaults [] = 0
-defaults (x ∷ xs) = if is_some x.test then defaults xs else suc (defaults xs)
+defaults (x ∷ xs) = if is_ranked DEFAULT x then suc (defaults xs) else defaults xs
 
--- the ranks of statements: a block, and a choice by tests
-abbrev pub BLOCK : ℕ
-BLOCK = 1
-
-abbrev pub IF : ℕ
-IF = 2
-
-abbrev pub is_block : Seen → Bool
-is_block x = x.rank == BLOCK
-
--- an exception is bound to what may be declared
-abbrev pub handler_fits : Handler Seen Seen → Bool
-handler_fits x = passes (λ e. stands DECLARED e.item) x.target && is_block x.body
-
--- Behind the last `else` stands no choice by tests. A `switch` has one `default` at most. What is tried is a block, and so is what
+-- Behind the last `else` stands no `if`. A `switch` has one `default` at most. What is tried is a block, and so is what
 -- follows, of which there is something. A declared function has a name
 abbrev pub stmt_musts : StmtOf Seen → List Bool
 stmt_musts (Stmt-F.Vars word first others semi) = declaration_fits first ∷ all_further declaration_fits others ∷ []
 stmt_musts (Stmt-F.Plain value semi) = stands 0 value ∷ []
-stmt_musts (Stmt-F.If first others last) = guarded_fits first ∷ all_further guarded_fits others ∷ passes (λ x. not (x.item.rank == IF)) last ∷ []
+stmt_musts (Stmt-F.If first others last) = is_ranked GUARD first ∷ all_further (is_ranked GUARD) others ∷ passes (λ x. not (is_ranked IF x.item)) last ∷ []
 stmt_musts (Stmt-F.Do word body again test semi) = stands 0 test.item ∷ []
-stmt_musts (Stmt-F.While guarded) = guarded_fits guarded ∷ []
-stmt_musts (Stmt-F.For word begin start first test second step end body) = passes for_start_fits start ∷ passes (stands 0) test ∷ passes (stands 0) step ∷ []
+stmt_musts (Stmt-F.While word test body) = stands 0 test.item ∷ []
+stmt_musts (Stmt-F.For word begin start first test second step end body) = passes (is_ranked START) start ∷ passes (stands 0) test ∷ passes (stands 0) step ∷ []
 stmt_musts (Stmt-F.ForIn word begin left mark_ value end body) = left_fits left ∷ stands 0 value ∷ []
 stmt_musts (Stmt-F.ForOf word begin left mark_ value end body) = bytes_eq mark_.text (codes "of") ∷ left_fits left ∷ not (is_async left) ∷ stands ASSIGN value ∷ []
 stmt_musts (Stmt-F.Return word value semi) = passes (stands 0) value ∷ []
 stmt_musts (Stmt-F.Throw word value semi) = stands 0 value ∷ []
-stmt_musts (Stmt-F.Switch word value begin cases end) = stands 0 value.item ∷ list_all case_fits cases ∷ nat_le (defaults cases) 1 ∷ []
-stmt_musts (Stmt-F.Try word body handler last) = is_block body ∷ passes handler_fits handler ∷ passes (λ x. is_block x.item) last ∷ (is_some handler || is_some last) ∷ []
+stmt_musts (Stmt-F.Switch word value begin cases end) = stands 0 value.item ∷ list_all is_case cases ∷ nat_le (defaults cases) 1 ∷ []
+stmt_musts (Stmt-F.Try word body handler last) = is_block body ∷ passes (is_ranked CATCH) handler ∷ passes (λ x. is_block x.item) last ∷ (is_some handler || is_some last) ∷ []
 stmt_musts (Stmt-F.«Stmt::Fun» function) = is_some function.name ∷ []
 stmt_musts _ = []
 
@@ -165,15 +135,6 @@ stmt_rank (Stmt-F.«Stmt::Block» block) = BLOCK
 stmt_rank (Stmt-F.If first others last) = IF
 stmt_rank _ = 0
 
--- what a loop declares first is a statement of its own
-abbrev pub for_start_height : Option (ForStart Seen Seen) → ℕ
-for_start_height (Some (start.Vars word first others)) = suc (max first.height (each_of (λ x h. max x.item.height h) others 0))
-for_start_height _ = 0
-
-abbrev pub start_height : StmtOf Seen → ℕ
-start_height (Stmt-F.For word begin start first test second step end body) = for_start_height start
-start_height _ = 0
-
 abbrev pub stmt_step : StmtOf Seen → Seen
 stmt_step x = record {
   line = λ rest. musts (stmt_musts x) (stmt_row lines x (stmt_behind x rest));
@@ -187,5 +148,5 @@ stmt_step x = record {
   names_await = stmt_row (some_has (λ s. s.names_await)) x false;
   uses_yield = stmt_row (some_has (λ s. s.uses_yield)) x false;
   uses_await = stmt_row (some_has (λ s. s.uses_await)) x false;
-  height = max (start_height x) (stmt_row highest_of x 0) + 1;
+  height = stmt_row highest_of x 0 + 1;
 }
