@@ -2,17 +2,18 @@
 use Rattle.std.proofs.Common.{Some, ◌≡◌, ℕ, ◌+◌, List, [], ◌∷◌, ◌++◌, map, refl, sym, ap, ◌∙◌, Bool, nat_lt, ◌==◌, if◌then◌else◌}
 use Rattle.std.specs.List.{flat_map, count_by}
 use Rattle.std.specs.List.Sorted.{IsPermutation}
+use Rattle.std.proofs.lemmas.Grind.{flat_map-append}
 use Rattle.std.proofs.lemmas.List.{map-append}
 use Rattle.js_tree.specs.declared.token.Token.{Token}
 use Rattle.js_tree.specs.declared.tree.Tree.{Tree}
-use Rattle.js_tree.specs.Parts.{ABody}
+use Rattle.js_tree.specs.Parts.{Node, ABody, parts}
 use Rattle.js_tree.proofs.GatherLemmas.{gathered_made}
 use Rattle.js_scopes.specs.declared.binding.Binding.{Binding}
 use Rattle.js_scopes.specs.declared.binding.Binding.TheVariants as binding
 use Rattle.js_scopes.specs.declared.binding.BoundName.{BoundName}
 use Rattle.js_scopes.specs.Names.{Scope, firsts, local_number}
-use Rattle.js_scopes.specs.Scopes.{meaning, numbering_of, module_scope, own_scopes, scopes_in}
-use Rattle.js_scopes.specs.Walks.{local_starts}
+use Rattle.js_scopes.specs.Scopes.{inner_scopes, meaning, numbering_of, module_scope, own_scopes, scopes_in}
+use Rattle.js_scopes.specs.Walks.{first_starts, local_starts}
 use Rattle.js_scopes.specs.Indexed.{scope_starts}
 use Rattle.js_scopes.proofs.Counts.{count_cons, one_if, count_moved}
 
@@ -37,12 +38,19 @@ map_flat : {X A B : Type 0} (h : A → B) (f : X → List A) (xs : List X) → m
 map_flat h f [] = refl
 map_flat h f (x ∷ xs) = map-append h (f x) (flat_map f xs) ∙ ap (λ ys. map h (f x) ++ ys) (map_flat h f xs)
 
+-- the starts of the scopes in several nodes
+scopes_starts : (ns : List Node) → flat_map scope_starts (flat_map scopes_in ns) ≡ flat_map first_starts ns
+scopes_starts [] = refl
+scopes_starts (n ∷ ns) =
+    flat_map-append scope_starts (scopes_in n) (flat_map scopes_in ns)
+    ∙ (λ i. gathered_made scope_starts own_scopes (λ n u. Some u) n tt i ++ scopes_starts ns i)
+
 all_starts : (tree : Tree) → map (λ (t : Token). t.start) (numbering_of tree).locals ≡ local_starts (module_scope tree) tree
 all_starts tree =
     let start = λ (t : Token). t.start in
-    let scopes = scopes_in (ABody tree.body) in
+    let scopes = inner_scopes tree in
     map-append start (firsts (module_scope tree)) (flat_map firsts scopes)
-    ∙ ap (λ ys. scope_starts (module_scope tree) ++ ys) (map_flat start firsts scopes ∙ gathered_made scope_starts own_scopes (λ n u. Some u) (ABody tree.body) tt)
+    ∙ ap (λ ys. scope_starts (module_scope tree) ++ ys) (map_flat start firsts scopes ∙ scopes_starts (parts (ABody tree.body)))
 
 -- the sorted starts give the numbers of declared names
 pub numbered : (tree : Tree) (scope : Scope) (starts sorted : List ℕ) → scope ≡ module_scope tree → starts ≡ local_starts scope tree → IsPermutation starts sorted

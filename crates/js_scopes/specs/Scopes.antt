@@ -4,20 +4,18 @@ use Rattle.std.specs.List.{flat_map}
 use Rattle.std.specs.Str.{bytes_eq}
 use Rattle.std.specs.Ordering.{nat_cmp, on, then_cmp}
 use Rattle.std.specs.declared.cmp.Ordering.{Ordering}
-use Rattle.js_tree.specs.declared.lists.ForStart.{ForStart}
-use Rattle.js_tree.specs.declared.lists.ForStart.TheVariants as start
 use Rattle.js_tree.specs.declared.lists.Left.{Left}
 use Rattle.js_tree.specs.declared.lists.Left.TheVariants as left
 use Rattle.js_tree.specs.declared.token.Token.{Token}
 use Rattle.js_tree.specs.declared.tree.Expr.{Expr, out-Expr}
-use Rattle.js_tree.specs.declared.tree.Expr.TheOpen.{Expr-F, Pattern-F, Stmt-F}
+use Rattle.js_tree.specs.declared.tree.Expr.TheOpen.{Expr-F, Pattern-F, Stmt-F, StmtClause-F}
 use Rattle.js_tree.specs.declared.tree.Function.{Function, out-Function}
 use Rattle.js_tree.specs.declared.tree.Pattern.{Pattern, out-Pattern}
-use Rattle.js_tree.specs.declared.tree.Slot.{Slot}
 use Rattle.js_tree.specs.declared.tree.Stmt.{Stmt, out-Stmt}
+use Rattle.js_tree.specs.declared.tree.StmtClause.{StmtClause, out-StmtClause}
 use Rattle.js_tree.specs.declared.tree.Tree.{Tree}
-use Rattle.js_tree.specs.Folds.{ExprLayer, PatternLayer, StmtLayer}
-use Rattle.js_tree.specs.Parts.{Node, AnExpr, AFunction, APattern, AStmt, ABody, ACases, AHandler, gathered, parts}
+use Rattle.js_tree.specs.Folds.{ClauseLayer, ExprLayer, PatternLayer, StmtLayer}
+use Rattle.js_tree.specs.Parts.{Node, AnExpr, AFunction, APattern, AStmt, AClause, ABody, ACases, gathered, parts}
 use Rattle.js_scopes.specs.declared.binding.Binding.{Binding}
 use Rattle.js_scopes.specs.declared.binding.Binding.TheVariants as binding
 use Rattle.js_scopes.specs.declared.binding.BoundName.{BoundName}
@@ -87,9 +85,17 @@ own_declared _ d = []
 abbrev pub kind_of_word : NameKind → Token → NameKind
 kind_of_word other t = if bytes_eq t.text (codes "var") then names.Variable else other
 
-abbrev pub kind_in_start : Option (ForStart Expr Slot) → NameKind
-kind_in_start (Some (start.Vars word first others)) = kind_of_word names.Head word
-kind_in_start _ = names.Free
+-- how the patterns that are parts of a clause declare their names: what a `for` begins with declares by `let` or `const`, and a `catch`, in a scope of its own
+-- (ECMA-262, 13.7.4 and 13.15)
+abbrev pub kind_in_clause : ClauseLayer → NameKind
+kind_in_clause (StmtClause-F.Declared word first others) = kind_of_word names.Head word
+kind_in_clause (StmtClause-F.Catch word target body) = names.Head
+kind_in_clause _ = names.Free
+
+-- the same of what a `for` begins with
+abbrev pub kind_in_start : Option StmtClause → NameKind
+kind_in_start None = names.Free
+kind_in_start (Some x) = kind_in_clause (out-StmtClause x)
 
 abbrev pub kind_in_left : Left Pattern → NameKind
 kind_in_left (left.Vars word target) = kind_of_word names.Head word
@@ -117,14 +123,19 @@ within_own k scope.Function = Some (record { scope = scope.Function; names = k }
 within_own k scope.Block = None
 within_own k scope.Head = None
 
--- expressions and functions declare nothing in the scopes around them. Statements in braces, the cases of a `switch` and a handler have a scope of their own
+-- what is looked for inside a clause: a `catch` has a scope of its own
+abbrev pub within_clause : ClauseLayer → ScopeKind → Option Declaring
+within_clause (StmtClause-F.Catch word target body) s = within_own names.Head s
+within_clause x s = Some (record { scope = s; names = kind_in_clause x })
+
+-- expressions and functions declare nothing in the scopes around them. Statements in braces and the cases of a `switch` have a scope of their own
 abbrev pub still_declares : Node → Declaring → Option Declaring
 still_declares (AnExpr x) d = None
 still_declares (AFunction x) d = None
 still_declares (AStmt x) d = within_stmt d.scope (kind_in_stmt (out-Stmt x))
+still_declares (AClause x) d = within_clause (out-StmtClause x) d.scope
 still_declares (ABody xs) d = within_own names.Free d.scope
 still_declares (ACases xs) d = within_own names.Free d.scope
-still_declares (AHandler x) d = within_own names.Head d.scope
 still_declares _ d = Some d
 
 -- what a node declares in a scope around it
@@ -149,7 +160,7 @@ abbrev pub of_head : Declaring
 of_head = record { scope = scope.Head; names = names.Head }
 
 -- the scope that stands around the parts of a node: that of the own name of a function as a value (ECMA-262, 14.1.22), of a function, of a block and of
--- the cases of a `switch` (ECMA-262, 13.2 and 13.12), of a handler (ECMA-262, 13.15), and of a loop whose head declares in it
+-- the cases of a `switch` (ECMA-262, 13.2 and 13.12), of a `catch` (ECMA-262, 13.15), and of a loop whose head declares in it
 abbrev pub scope_in_expr : ExprLayer → Option Scope
 scope_in_expr (Expr-F.«Expr::Fun» function) = Some (own_name function)
 scope_in_expr _ = None
@@ -158,13 +169,17 @@ abbrev pub scope_of_loop : NameKind → Stmt → Option Scope
 scope_of_loop names.Head x = Some (scope_of of_head (AStmt x))
 scope_of_loop _ x = None
 
+abbrev pub scope_of_catch : ClauseLayer → StmtClause → Option Scope
+scope_of_catch (StmtClause-F.Catch word target body) x = Some (scope_of of_head (AClause x))
+scope_of_catch _ x = None
+
 abbrev pub scope_in : Node → Option Scope
 scope_in (AnExpr x) = scope_in_expr (out-Expr x)
 scope_in (AFunction x) = Some (scope_of of_function (AFunction x))
 scope_in (AStmt x) = scope_of_loop (kind_in_stmt (out-Stmt x)) x
+scope_in (AClause x) = scope_of_catch (out-StmtClause x) x
 scope_in (ABody xs) = Some (scope_of of_block (ABody xs))
 scope_in (ACases xs) = Some (scope_of of_block (ACases xs))
-scope_in (AHandler x) = Some (scope_of of_head (AHandler x))
 scope_in _ = None
 
 -- the scopes in a node

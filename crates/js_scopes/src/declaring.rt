@@ -2,10 +2,10 @@
 ghost use Rattle.std.specs.Prelude.{◌≡◌, if◌then◌else◌, codes};
 ghost use Rattle.std.specs.Str.{bytes_eq};
 ghost use Rattle.js_tree.specs.declared.tree.Stmt.{out-Stmt};
+ghost use Rattle.js_tree.specs.declared.tree.StmtClause.{out-StmtClause};
 ghost use Rattle.js_scopes.specs.Scopes as seen;
 
-use js_tree::{Expr, ForStart, Left, Pattern, Slot, Stmt, Token};
-use sqlite_items::Boxed;
+use js_tree::{Left, Pattern, Stmt, StmtClause, Token};
 
 /// The scope whose names are looked for.
 #[derive(Clone, Copy, Debug, Drop)]
@@ -137,18 +137,31 @@ fn kind_of_word(other: NameKind, word: &Token) -> NameKind
     }
 }
 
-fn kind_in_start(start: &Option<ForStart<Boxed<Expr>, Slot>>) -> NameKind
+// How the patterns that are parts of a clause declare their names.
+fn kind_in_clause(clause: &StmtClause) -> NameKind
+    ensures { result ≡ seen.kind_in_clause (out-StmtClause clause.now) }
+{
+    match clause {
+        StmtClause::Declared {
+            word,
+            first: _,
+            rest: _,
+        } => kind_of_word(NameKind::Head, word),
+        StmtClause::Catch {
+            word: _,
+            target: _,
+            body: _,
+        } => NameKind::Head,
+        _ => NameKind::Free,
+    }
+}
+
+fn kind_in_start(start: &Option<StmtClause>) -> NameKind
     ensures { result ≡ seen.kind_in_start start.now }
 {
     match start {
-        Some(
-            ForStart::Vars {
-                word,
-                first: _,
-                rest: _,
-            },
-        ) => kind_of_word(NameKind::Head, word),
-        _ => NameKind::Free,
+        None => NameKind::Free,
+        Some(clause) => kind_in_clause(clause),
     }
 }
 
@@ -184,5 +197,22 @@ pub(crate) fn within_own(names: NameKind, scope: ScopeKind) -> Option<Declaring>
         ScopeKind::Function => Some(Declaring { scope, names }),
         ScopeKind::Block => None,
         ScopeKind::Head => None,
+    }
+}
+
+// What is looked for inside a clause.
+pub(crate) fn within_clause(scope: ScopeKind, clause: &StmtClause) -> Option<Declaring>
+    ensures { result ≡ seen.within_clause (out-StmtClause clause.now) scope }
+{
+    match clause {
+        StmtClause::Catch {
+            word: _,
+            target: _,
+            body: _,
+        } => within_own(NameKind::Head, scope),
+        _ => Some(Declaring {
+            scope,
+            names: kind_in_clause(clause),
+        }),
     }
 }

@@ -6,7 +6,8 @@ ghost use Rattle.js_tree.specs.declared.tree.Expr.{out-Expr};
 ghost use Rattle.js_tree.specs.declared.tree.Function.{out-Function};
 ghost use Rattle.js_tree.specs.declared.tree.Pattern.{out-Pattern};
 ghost use Rattle.js_tree.specs.declared.tree.Stmt.{out-Stmt};
-ghost use Rattle.js_tree.specs.Parts.{AStmt, node_of};
+ghost use Rattle.js_tree.specs.declared.tree.StmtClause.{out-StmtClause};
+ghost use Rattle.js_tree.specs.Parts.{AClause, AStmt, node_of};
 ghost use Rattle.js_tree.specs.Tokens.{IsInText};
 ghost use Rattle.js_scopes.specs.Brackets.{listed};
 ghost use Rattle.js_scopes.specs.Functions as functions;
@@ -18,10 +19,12 @@ use crate::binding::{Binding, WrapperName};
 use crate::declaration::Scope;
 use crate::declaring::{
     Declaring, NameKind, ScopeKind, declaring_block, declaring_function, declaring_head,
-    kind_in_stmt, within_own, within_stmt,
+    kind_in_stmt, within_clause, within_own, within_stmt,
 };
 use jam_base::OutOfMemory;
-use js_tree::{Expr, Function, Gather, Node, Pattern, Stmt, Token, push_parts, walk_tree};
+use js_tree::{
+    Expr, Function, Gather, Node, Pattern, Stmt, StmtClause, Token, push_parts, walk_tree,
+};
 use std::alloc::Global;
 
 // The scope around the parts of a node.
@@ -97,9 +100,9 @@ impl<'t> Gather<'t> for Declarations {
             Node::Expr(_) => None,
             Node::Function(_) => None,
             Node::Stmt(statement) => within_stmt(around.scope, kind_in_stmt(statement)),
+            Node::Clause(clause) => within_clause(around.scope, clause),
             Node::Body(_) => within_own(NameKind::Free, around.scope),
             Node::Cases(_) => within_own(NameKind::Free, around.scope),
-            Node::Handler(_) => within_own(NameKind::Head, around.scope),
             _ => Some(around),
         }
     }
@@ -237,9 +240,9 @@ pub(crate) fn scope_in<'t>(alloc: Global, node: Node<'t>) -> Result<Option<Scope
             scope_around(alloc, Node::Function(function), declaring_function())
         }
         Node::Stmt(statement) => scope_of_loop(alloc, statement),
+        Node::Clause(clause) => scope_of_catch(alloc, clause),
         Node::Body(body) => scope_around(alloc, Node::Body(body), declaring_block()),
         Node::Cases(cases) => scope_around(alloc, Node::Cases(cases), declaring_block()),
-        Node::Handler(handler) => scope_around(alloc, Node::Handler(handler), declaring_head()),
         _ => Ok(None),
     }
 }
@@ -276,6 +279,21 @@ fn scope_of_loop(alloc: Global, statement: &Stmt) -> Result<Option<Scope<'_>>, O
 {
     match kind_in_stmt(statement) {
         NameKind::Head => scope_around(alloc, Node::Stmt(statement), declaring_head()),
+        _ => Ok(None),
+    }
+}
+
+// The scope of a `catch`.
+fn scope_of_catch(alloc: Global, clause: &StmtClause) -> Result<Option<Scope<'_>>, OutOfMemory>
+    requires { IsInText (AClause clause.now) }
+    ensures { IfOk result (λ scope. scope ≡ seen.scope_of_catch (out-StmtClause clause.now) clause.now) }
+{
+    match clause {
+        StmtClause::Catch {
+            word: _,
+            target: _,
+            body: _,
+        } => scope_around(alloc, Node::Clause(clause), declaring_head()),
         _ => Ok(None),
     }
 }

@@ -5,4 +5,4 @@ use Rattle.js_scopes.specs.Scopes.{declared_in}
 use Rattle.js_scopes.proofs.scope.declared_in.Given as goal
 
 abbrev pub invariant-loop-node : goal.invariant-loop-node
-invariant-loop-node l = map (λ t. t.now) l.tokens.items ≡ flat_map (λ x. declared_in (node_of x) l.in_module) (take l.node-index l.nodes)
+invariant-loop-node l = map (λ t. t.now) l.tokens.items ≡ flat_map (λ x. declared_in (node_of x) l.declaring) (take l.node-index l.nodes)

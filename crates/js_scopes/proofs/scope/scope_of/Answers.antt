@@ -19,6 +19,6 @@ declared_in-requires c =
 pub returns : goal.returns
 returns c =
     let m = node_of c.args.node in
-    let f = λ (p : Node). declared_in p c.args.in_module in
+    let f = λ (p : Node). declared_in p c.args.declaring in
     let same_parts : map node_of c.as_slice.result.now ≡ parts m = ap (map node_of) c.as_slice.ensures.value ∙ from_nothing node_of _ _ (parts m) c.new-parts.ensures.items (c.in_ok-push_parts.ensures {u = tt}) in
     IfOk-weaker c.of.result _ _ (λ made e. e ∙ c.in_ok-declared_in.ensures {u = tt} ∙ sym (flat_map-map f node_of c.as_slice.result.now) ∙ ap (flat_map f) same_parts) c.of.ensures
