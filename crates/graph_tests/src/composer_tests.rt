@@ -157,6 +157,31 @@ fn more_than_a_few_functions_come_to_one_vertex(rt: HostRuntime) -> Result<(), O
     Ok(())
 }
 
+// Two chains of 100,000 variables, one along the order of the flows and one against it. A body that goes
+// over all flows again and again, in any one order, doesn't come to the end of both.
+#[test]
+fn values_go_along_long_chains(rt: HostRuntime) -> Result<(), OutOfMemory> {
+    let alloc = rt.alloc();
+    let mut flows = Vec::new(alloc);
+    flows.push(flow(lit(1), var(0)))?;
+    flows.push(flow(lit(2), var(199_999)))?;
+    for local in 0..99_999_u32 {
+        flows.push(flow(var(local), var(local + 1)))?;
+    }
+    flows.push(flow(var(99_999), callee(5)))?;
+    flows.push(flow(var(100_000), callee(9)))?;
+    for local in 100_000..199_999_u32 {
+        flows.push(flow(var(local + 1), var(local)))?;
+    }
+    let mut sites = Vec::new(alloc);
+    sites.push(site(5, 0, 0))?;
+    sites.push(site(9, 0, 0))?;
+    let one = part(alloc, &[0, 0, 0], sites, Vec::new(alloc), flows)?;
+    let graph = graph_of::<Brand>(alloc, one, Blank::new(1))?;
+    assert!(rt; graph.edges() == [edge(0, 0, 5, 0, 1), edge(0, 0, 9, 0, 2)].as_slice());
+    Ok(())
+}
+
 #[test]
 fn the_size_counts_functions_sites_requires_and_flows(rt: HostRuntime) -> Result<(), OutOfMemory> {
     let alloc = rt.alloc();
