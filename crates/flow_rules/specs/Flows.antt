@@ -6,6 +6,8 @@ use Rattle.std.specs.declared.cmp.Ordering.{Ordering}
 use Rattle.js_tree.specs.declared.lists.Arm.{Arm}
 use Rattle.js_tree.specs.declared.lists.Further.{Further}
 use Rattle.js_tree.specs.declared.lists.Init.{Init}
+use Rattle.js_tree.specs.declared.lists.Left.{Left}
+use Rattle.js_tree.specs.declared.lists.Left.TheVariants as left
 use Rattle.js_tree.specs.declared.token.Token.{Token}
 use Rattle.js_tree.specs.declared.tree.Expr.{Expr, out-Expr}
 use Rattle.js_tree.specs.declared.tree.Expr.TheOpen.{Expr-F, Pattern-F, Stmt-F}
@@ -17,7 +19,7 @@ use Rattle.js_tree.specs.declared.tree.Slot.{Slot, out-Slot}
 use Rattle.js_tree.specs.declared.tree.Stmt.{out-Stmt}
 use Rattle.js_tree.specs.declared.tree.Tree.{Tree}
 use Rattle.js_tree.specs.Folds.{ExprLayer, FunctionLayer, PatternLayer, SlotLayer, StmtLayer}
-use Rattle.js_tree.specs.Parts.{Node, AnExpr, AFunction, AKey, APattern, APatternProperty, AProperty, AStmt, ASlot, ATail, ABody, gathered}
+use Rattle.js_tree.specs.Parts.{Node, AnExpr, AFunction, AKey, APattern, APatternProperty, AProperty, AStmt, ASlot, ATail, ABody, ACases, AClause, gathered}
 use Rattle.jam_base.specs.Ascending.{ascending}
 use Rattle.js_scopes.specs.Calls.{Known, holder_in, made_with}
 use Rattle.js_scopes.specs.Functions.{arrow_value, is_assignment, name_in, params_in, rest_in, start_of}
@@ -132,9 +134,15 @@ given_flows facts target (Some x) = into facts target (value facts x.value)
 abbrev pub slot_flows : Facts → SlotLayer → List Flow
 slot_flows facts slot = given_flows facts slot.target slot.init
 
--- Return: what is given, in the function with this number
+-- what a loop assigns to in each turn
+abbrev pub target_of : Left Pattern → Pattern
+target_of (left.Vars word target) = target
+target_of (left.Target target) = target
+
+-- Return: what is given, in the function with this number. ForOf: elements come to what is assigned to (ECMA-262, 13.7.5)
 abbrev pub stmt_flows : Facts → ℕ → StmtLayer → List Flow
 stmt_flows facts holder (Stmt-F.Return word value semi) = returned_flows facts holder value
+stmt_flows facts holder (Stmt-F.ForOf word begin target mark value end body) = into facts (target_of target) (Some vertex.Elem)
 stmt_flows facts holder _ = []
 
 -- NODES
@@ -150,6 +158,8 @@ own_flows facts (AStmt x) holder = stmt_flows facts holder (out-Stmt x)
 own_flows facts (ASlot s) holder = slot_flows facts (out-Slot s)
 own_flows facts (ATail head before t) holder = tail_flows facts head before t
 own_flows facts (ABody body) holder = []
+own_flows facts (ACases xs) holder = []
+own_flows facts (AClause x) holder = []
 
 -- the flows in a node, in the function with this number
 abbrev pub flows_in : Facts → Node → ℕ → List Flow

@@ -1,15 +1,18 @@
 -- The requires and the notes of a tree.
 use Rattle.std.specs.Prelude.{ℕ, ◌==◌, List, [], ◌∷◌, Option, Some, None, if◌then◌else◌, codes}
 use Rattle.std.specs.Str.{bytes_eq}
+use Rattle.js_tree.specs.declared.lists.Left.{Left}
+use Rattle.js_tree.specs.declared.lists.Left.TheVariants as left
 use Rattle.js_tree.specs.declared.lists.Tail.{Tail}
 use Rattle.js_tree.specs.declared.lists.Tail.TheVariants as tail
 use Rattle.js_tree.specs.declared.token.Token.{Token}
 use Rattle.js_tree.specs.declared.tree.Expr.{Expr, out-Expr}
-use Rattle.js_tree.specs.declared.tree.Expr.TheOpen.{Expr-F, Pattern-F, Stmt-F}
-use Rattle.js_tree.specs.declared.tree.Pattern.{out-Pattern}
+use Rattle.js_tree.specs.declared.tree.Expr.TheOpen.{Expr-F, Pattern-F, Stmt-F, StmtClause-F}
+use Rattle.js_tree.specs.declared.tree.Pattern.{Pattern, out-Pattern}
 use Rattle.js_tree.specs.declared.tree.Stmt.{out-Stmt}
-use Rattle.js_tree.specs.Folds.{ExprLayer, PatternLayer, StmtLayer}
-use Rattle.js_tree.specs.Parts.{Node, AnExpr, AFunction, AKey, APattern, APatternProperty, AProperty, AStmt, ASlot, ATail, ABody, gathered}
+use Rattle.js_tree.specs.declared.tree.StmtClause.{out-StmtClause}
+use Rattle.js_tree.specs.Folds.{ClauseLayer, ExprLayer, PatternLayer, StmtLayer}
+use Rattle.js_tree.specs.Parts.{Node, AnExpr, AFunction, AKey, APattern, APatternProperty, AProperty, AStmt, ASlot, ATail, ABody, ACases, AClause, gathered}
 use Rattle.js_scopes.specs.Brackets.{elements}
 use Rattle.js_scopes.specs.Calls.{Known, first_string, holder_in, is_require, is_require_alone}
 use Rattle.flow_rules.specs.declared.module.ModuleNote.{ModuleNote}
@@ -61,10 +64,21 @@ standing_in_expr (Expr-F.New word head tails args) = beside_head head tails
 standing_in_expr (Expr-F.Unary op operand) = beside_operand op operand
 standing_in_expr _ = standing.Value
 
--- what stands directly in a statement that declares is declared
+-- what stands directly in a statement that declares is declared, as is what a loop or a handler declares
+abbrev pub standing_in_left : Left Pattern → Standing
+standing_in_left (left.Vars word target) = standing.Declared
+standing_in_left (left.Target target) = standing.Value
+
 abbrev pub standing_in_stmt : StmtLayer → Standing
 standing_in_stmt (Stmt-F.Vars word first others semi) = standing.Declared
+standing_in_stmt (Stmt-F.ForIn word begin target mark value end body) = standing_in_left target
+standing_in_stmt (Stmt-F.ForOf word begin target mark value end body) = standing_in_left target
 standing_in_stmt _ = standing.Value
+
+abbrev pub standing_in_clause : ClauseLayer → Standing
+standing_in_clause (StmtClause-F.Catch word target body) = standing.Declared
+standing_in_clause (StmtClause-F.Declared word first others) = standing.Declared
+standing_in_clause _ = standing.Value
 
 -- how the parts of a node stand: the parameters of a function are declared, and those of a slot, of a pattern and of a property in it stand as these
 -- themselves
@@ -79,6 +93,8 @@ standing_in (AStmt x) s = standing_in_stmt (out-Stmt x)
 standing_in (ASlot x) s = s
 standing_in (ATail head before t) s = standing.Value
 standing_in (ABody body) s = standing.Value
+standing_in (ACases xs) s = standing.Value
+standing_in (AClause x) s = standing_in_clause (out-StmtClause x)
 
 -- the note on a use of a name as a value
 abbrev pub name_notes : Known → Token → List ModuleNote

@@ -22,7 +22,7 @@ use crate::values::{OR, choice_mark, joined_vertex, operator_mark, value_of};
 use crate::{Flow, Vertex};
 use jam_base::OutOfMemory;
 use js_scopes::{Binding, Known, is_assignment};
-use js_tree::{Arm, Expr, Further, Gather, Node, Pattern, Slot, Stmt, Token};
+use js_tree::{Arm, Expr, Further, Gather, Left, Node, Pattern, Slot, Stmt, Token};
 use sqlite_items::Boxed;
 use std::alloc::Global;
 
@@ -77,6 +77,8 @@ impl<'t, 'm> Gather<'t> for Flows<'m> {
                 push_tail_flows(alloc, &self.facts, head, before, tail, out)
             }
             Node::Body(_) => Ok(()),
+            Node::Cases(_) => Ok(()),
+            Node::Clause(_) => Ok(()),
         }
     }
 
@@ -259,7 +261,26 @@ fn push_stmt_flows(
             value,
             semi: _,
         } => push_returned(alloc, facts, value, holder, out),
+        Stmt::ForOf {
+            word: _,
+            open: _,
+            left,
+            mark: _,
+            value: _,
+            close: _,
+            body: _,
+        } => push_into(alloc, facts, target_of(left), &Some(Vertex::Elem), out),
         _ => Ok(()),
+    }
+}
+
+// What a loop assigns to in each turn.
+fn target_of(left: &Left<Pattern>) -> &Pattern
+    ensures { result.now ≡ seen.target_of left.now }
+{
+    match left {
+        Left::Vars { word: _, target } => target,
+        Left::Target(target) => target,
     }
 }
 

@@ -3,6 +3,7 @@ ghost use Rattle.std.specs.Prelude.{◌≡◌, ◌==◌, ◌++◌, [], OnOk, if�
 ghost use Rattle.js_tree.specs.declared.tree.Expr.{out-Expr};
 ghost use Rattle.js_tree.specs.declared.tree.Pattern.{out-Pattern};
 ghost use Rattle.js_tree.specs.declared.tree.Stmt.{out-Stmt};
+ghost use Rattle.js_tree.specs.declared.tree.StmtClause.{out-StmtClause};
 ghost use Rattle.js_tree.specs.Parts.{node_of};
 ghost use Rattle.js_scopes.specs.AtHand.{known_in};
 ghost use Rattle.js_scopes.specs.Brackets.{elements};
@@ -12,7 +13,7 @@ ghost use Rattle.flow_rules.specs.Requires as seen;
 use crate::{ModuleNote, NoteKind};
 use jam_base::OutOfMemory;
 use js_scopes::{Known, first_string};
-use js_tree::{Bracket, Element, Expr, Gather, Node, Pattern, Stmt, Tail, Token};
+use js_tree::{Bracket, Element, Expr, Gather, Left, Node, Pattern, Stmt, StmtClause, Tail, Token};
 use sqlite_items::Boxed;
 use std::alloc::Global;
 
@@ -98,6 +99,8 @@ fn standing_in(node: Node<'_>, around: Standing) -> Standing
             tail: _,
         } => Standing::Value,
         Node::Body(_) => Standing::Value,
+        Node::Cases(_) => Standing::Value,
+        Node::Clause(clause) => standing_in_clause(clause),
     }
 }
 
@@ -158,6 +161,51 @@ fn standing_in_stmt(statement: &Stmt) -> Standing
             first: _,
             rest: _,
             semi: _,
+        } => Standing::Declared,
+        Stmt::ForIn {
+            word: _,
+            open: _,
+            left,
+            mark: _,
+            value: _,
+            close: _,
+            body: _,
+        } => standing_in_left(left),
+        Stmt::ForOf {
+            word: _,
+            open: _,
+            left,
+            mark: _,
+            value: _,
+            close: _,
+            body: _,
+        } => standing_in_left(left),
+        _ => Standing::Value,
+    }
+}
+
+fn standing_in_left(left: &Left<Pattern>) -> Standing
+    ensures { result ≡ seen.standing_in_left left.now }
+{
+    match left {
+        Left::Vars { word: _, target: _ } => Standing::Declared,
+        Left::Target(_) => Standing::Value,
+    }
+}
+
+fn standing_in_clause(clause: &StmtClause) -> Standing
+    ensures { result ≡ seen.standing_in_clause (out-StmtClause clause.now) }
+{
+    match clause {
+        StmtClause::Catch {
+            word: _,
+            target: _,
+            body: _,
+        } => Standing::Declared,
+        StmtClause::Declared {
+            word: _,
+            first: _,
+            rest: _,
         } => Standing::Declared,
         _ => Standing::Value,
     }
