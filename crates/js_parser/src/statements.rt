@@ -4,7 +4,7 @@ ghost use Rattle.js_tree.specs.Spelling as seen;
 ghost use Rattle.js_parser.specs.declared.kinds.Statement.TheVariants as sorts;
 ghost use Rattle.js_parser.specs.Following.{LeadsToStmt};
 ghost use Rattle.js_parser.specs.Knot.{Knot};
-ghost use Rattle.js_parser.specs.Nodes.{ReadsStmt, ReadsStmts, ReadsSlot, ReadsFurtherSlot, ReadsSlots, ReadsInit, ReadsGiven};
+ghost use Rattle.js_parser.specs.Nodes.{ReadsStmt, ReadsStmts, ReadsSlot, ReadsFurtherSlot, ReadsSlots, ReadsGiven};
 
 use crate::grammar::Grammar;
 use crate::kinds::{Statement, are_same, closes, statement_of};
