@@ -191,7 +191,7 @@ module _ (n : Node) (k j : NameKind) (each : AllByRecursion Declares (parts n)) 
       omega (arith, a, b, c, d, e, f, free, owned, plain)
 
 -- a node with a scope of its own, in which its parts declare
-module _ (n : Node) (k j : NameKind) (s : ScopeKind) (each : AllByRecursion Declares (parts n)) (goes : still_declares n (such scope.Function k) ≡ Some (such scope.Function j))
+module _ (n : Node) (k j : NameKind) (each : AllByRecursion Declares (parts n)) (goes : still_declares n (such scope.Function k) ≡ Some (such scope.Function j))
     (block : still_declares n (such scope.Block k) ≡ None) (head : still_declares n (such scope.Head k) ≡ None)
     (starts : length (own_starts n tt) ≤ many_in (parts n) scope.Block j + many_in (parts n) scope.Head j)
     (owned : own_many n scope.Function k + own_many n scope.Block k + own_many n scope.Head k ≡ 0) (plain : spare n ≡ 0) where
@@ -213,7 +213,7 @@ clause_declares : (x : StmtClause) → AllByRecursion Declares (parts (AClause x
 clause_declares x each k (StmtClause-F.Catch word target body) e =
     let a = scope_few (scope_of of_head (AClause x)) in
     let b : length (own_starts (AClause x) tt) ≡ length (flat_map scope_starts (scope_of of_head (AClause x) ∷ [])) = ap (λ l. length (flat_map scope_starts (listed (scope_of_catch l x)))) e in
-    own_scope (AClause x) k names.Head scope.Head each (ap (λ l. within_clause l scope.Function) e) (ap (λ l. within_clause l scope.Block) e) (ap (λ l. within_clause l scope.Head) e) (omega (arith, a, b)) refl refl
+    own_scope (AClause x) k names.Head each (ap (λ l. within_clause l scope.Function) e) (ap (λ l. within_clause l scope.Block) e) (ap (λ l. within_clause l scope.Head) e) (omega (arith, a, b)) refl refl
 clause_declares x each k (StmtClause-F.Guarded word test body) e =
     goes_on (AClause x) k names.Free each (λ s. ap (λ l. within_clause l s) e) (clause_free x (ap (λ l. scope_of_catch l x) e)) (omega arith) refl
 clause_declares x each k (StmtClause-F.Case word test colon body) e =
@@ -264,8 +264,8 @@ declares (AKey x) each k = goes_on (AKey x) k k each (λ s. refl) refl (omega ar
 declares (APatternProperty x) each k = goes_on (APatternProperty x) k k each (λ s. refl) refl (omega arith) refl
 declares (AProperty x) each k = goes_on (AProperty x) k k each (λ s. refl) refl (omega arith) refl
 declares (ATail head before t) each k = goes_on (ATail head before t) k k each (λ s. refl) refl (omega arith) refl
-declares (ABody xs) each k = let a = scope_few (scope_of of_block (ABody xs)) in own_scope (ABody xs) k names.Free scope.Block each refl refl refl (omega (arith, a)) refl refl
-declares (ACases xs) each k = let a = scope_few (scope_of of_block (ACases xs)) in own_scope (ACases xs) k names.Free scope.Block each refl refl refl (omega (arith, a)) refl refl
+declares (ABody xs) each k = let a = scope_few (scope_of of_block (ABody xs)) in own_scope (ABody xs) k names.Free each refl refl refl (omega (arith, a)) refl refl
+declares (ACases xs) each k = let a = scope_few (scope_of of_block (ACases xs)) in own_scope (ACases xs) k names.Free each refl refl refl (omega (arith, a)) refl refl
 
 each_declares : (ns : List Node) → AllByRecursion Declares ns
 each_declares [] = tt

@@ -122,14 +122,14 @@ arrow_owned (shape.Round b) rest some =
 
 keyword_owned : (word : Token) (o : Option Token) (ps : Bracket (Element Slot)) (body : Block Stmt)
     → length (placed (elements ps)) + length (listed o) + 1 ≤ tokens (function_row items (Function-F.Keyword word o ps body) [])
-keyword_owned word None ps body = let a = round_tokens items.slot (λ x rest. refl) ps (block_row given_marks items.stmt body []) in let b = placed_few (elements ps) in omega (arith, a, b)
-keyword_owned word (Some t) ps body = let a = round_tokens items.slot (λ x rest. refl) ps (block_row given_marks items.stmt body []) in let b = placed_few (elements ps) in omega (arith, a, b)
+keyword_owned word None ps body = let a = round_tokens items.slot (λ x rest. refl) ps (block_row given_marks items.body body []) in let b = placed_few (elements ps) in omega (arith, a, b)
+keyword_owned word (Some t) ps body = let a = round_tokens items.slot (λ x rest. refl) ps (block_row given_marks items.body body []) in let b = placed_few (elements ps) in omega (arith, a, b)
 
 -- a function: its parameters and its name
 pub params_owned : (l : FunctionLayer) → length (params_in l) + length (listed (name_in l)) + 1 ≤ 2 * tokens (function_row items l [])
 params_owned (Function-F.Keyword word name ps body) = let a = keyword_owned word name ps body in omega (arith, a)
 params_owned (Function-F.Arrow ps arrow value) = let a = arrow_owned ps (AToken arrow ∷ items.expr value []) (omega arith) in omega (arith, a)
-params_owned (Function-F.ArrowBlock ps arrow body) = let a = arrow_owned ps (AToken arrow ∷ block_row given_marks items.stmt body []) (omega arith) in omega (arith, a)
+params_owned (Function-F.ArrowBlock ps arrow body) = let a = arrow_owned ps (AToken arrow ∷ block_row given_marks items.body body []) (omega arith) in omega (arith, a)
 
 -- its name has a token of its own
 pub name_owned : (l : FunctionLayer) → length (listed (name_in l)) ≤ tokens (function_row items l [])
