@@ -1,318 +1,234 @@
 //! Reports over small applications, by the bytes of the output and of the error output.
-
-use crate::jam_app_tests::{Bench, compare, empty_bench, ran, words_of};
-use jam_base::{List, ModulePath};
-use std::alloc::Global;
-use std::marker::{Brand, Sync};
-use std::process::Abort;
-use std::sync::ledger::Blank;
+use crate::applications::applications_hold;
 use std::test::Fail;
-use std::thread::Threads;
-
-pub(crate) const LOCK: &str =
-    "{\"lockfileVersion\":3,\"packages\":{\"\":{\"name\":\"app\",\"version\":\"1.0.0\"}}}";
-
-pub(crate) const LOCK_A: &str =
-    "{\"lockfileVersion\":3,\"packages\":{\"\":{\"name\":\"app\",\"version\":\"1.0.0\"},\"node_modules/a\":{\"version\":\"1.1.0\"}}}";
-
-const LOCK_AB: &str =
-    "{\"lockfileVersion\":3,\"packages\":{\"node_modules/a\":{\"version\":\"1.0.0\"},\"node_modules/b\":{\"version\":\"2.0.0\"},\"\":{\"name\":\"app\",\"version\":\"1.0.0\"}}}";
-
-pub(crate) const NONE: &str = "{\"advisories\":[]}";
-
-pub(crate) const SLOW: &str =
-    "{\"advisories\":[{\"id\":\"X-1\",\"package\":\"a\",\"range\":\"<1.2.0\",\"functions\":[{\"file\":\"index.js\",\"name\":\"slow\"}]}]}";
-
-pub(crate) const INDEX: &str = "var a = require(\"a\");\na.go();\n";
-
-pub(crate) const PACKAGE: &str =
-    "function slow(x) { return x; }\nexports.go = function (x) { return slow(x); };\n";
-
-pub(crate) const ALARM: &str =
-    "alarm X-1 a 1.1.0 node_modules/a/index.js:1:1 slow\n  index.js:2:5 -> node_modules/a/index.js:2:14 go\n  node_modules/a/index.js:2:40 -> node_modules/a/index.js:1:1 slow\nmodules 2, functions 4, reachable 4, edges 3, alarms 1, notes 0\n";
-
-pub(crate) const EMPTY: &str = "modules 1, functions 1, reachable 1, edges 0, alarms 0, notes 0\n";
-
-/// A folder with these files.
-pub(crate) fn bench_of(alloc: Global, files: &[(&str, &str)]) -> Result<Bench, Fail> {
-    let mut bench = empty_bench(alloc);
-    for (path, text) in files {
-        let path = ModulePath::read(alloc, path)?.ok_or("path")?;
-        bench.folder.add(path, text.as_bytes().to_vec(alloc)?)?;
-    }
-    Ok(bench)
-}
-
-/// Runs the words of a line over these files, and compares the status, the output and the error output.
-pub(crate) fn check<R: Threads + Abort + Sync>(
-    rt: &R,
-    alloc: Global,
-    files: &[(&str, &str)],
-    line: &str,
-    number: u8,
-    out: &str,
-    err: &str,
-) -> Result<(), Fail> {
-    let mut bench = bench_of(alloc, files)?;
-    let words = words_of(alloc, line)?;
-    let status = ran::<R, Brand>(rt, alloc, &mut bench, words.as_slice(), Blank::new(1));
-    compare(rt, &bench, &status, number, out, err);
-    Ok(())
-}
 
 #[test]
 fn a_reachable_function_has_an_alarm_with_its_path(rt: HostRuntime) -> Result<(), Fail> {
-    let alloc = rt.alloc();
-    let files = [
-        ("package-lock.json", LOCK_A),
-        ("adv.json", SLOW),
-        ("index.js", INDEX),
-        ("node_modules/a/index.js", PACKAGE),
-    ];
-    check(&rt, alloc, files.as_slice(), "audit adv.json", 1, ALARM, "")?;
-    check(
-        &rt,
-        alloc,
-        files.as_slice(),
-        "audit --entry ./index.js adv.json",
-        1,
-        ALARM,
-        "",
-    )?;
-    check(
-        &rt,
-        alloc,
-        files.as_slice(),
-        "audit adv.json --format=text --entry=index",
-        1,
-        ALARM,
-        "",
-    )?;
-    let json =
-        "{\"alarms\":[{\"function\":{\"column\":1,\"line\":1,\"name\":\"slow\",\"path\":\"node_modules/a/index.js\"},\"id\":\"X-1\",\"package\":\"a\",\"path\":[{\"callee\":{\"column\":14,\"line\":2,\"name\":\"go\",\"path\":\"node_modules/a/index.js\"},\"column\":5,\"line\":2,\"path\":\"index.js\"},{\"callee\":{\"column\":1,\"line\":1,\"name\":\"slow\",\"path\":\"node_modules/a/index.js\"},\"column\":40,\"line\":2,\"path\":\"node_modules/a/index.js\"}],\"version\":\"1.1.0\"}],\"notes\":[],\"summary\":{\"alarms\":1,\"edges\":3,\"functions\":4,\"modules\":2,\"notes\":0,\"reachable\":4}}\n";
-    check(
-        &rt,
-        alloc,
-        files.as_slice(),
-        "audit --format json adv.json",
-        1,
-        json,
-        "",
-    )
+    applications_hold(&rt, rt.alloc(), ALARMS)
 }
+
+const ALARMS: &str = r#"
+application
+file package-lock.json {"lockfileVersion":3,"packages":{
+    "":{"name":"app","version":"1.0.0"},
+    "node_modules/a":{"version":"1.1.0"}}}
+file index.js
+    var a = require("a");
+    a.go();
+file node_modules/a/index.js
+    function slow(x) { return x; }
+    exports.go = function (x) { return slow(x); };
+file adv.json {"advisories":[
+    {"id":"X-1","package":"a","range":"<1.2.0","functions":[{"file":"index.js","name":"slow"}]}]}
+run 1 audit adv.json
+    alarm X-1 a 1.1.0 node_modules/a/index.js:1:1 slow
+      index.js:2:5 -> node_modules/a/index.js:2:14 go
+      node_modules/a/index.js:2:40 -> node_modules/a/index.js:1:1 slow
+    modules 2, functions 4, reachable 4, edges 3, alarms 1, notes 0
+run 1 audit --entry ./index.js adv.json
+    alarm X-1 a 1.1.0 node_modules/a/index.js:1:1 slow
+      index.js:2:5 -> node_modules/a/index.js:2:14 go
+      node_modules/a/index.js:2:40 -> node_modules/a/index.js:1:1 slow
+    modules 2, functions 4, reachable 4, edges 3, alarms 1, notes 0
+run 1 audit adv.json --format=text --entry=index
+    alarm X-1 a 1.1.0 node_modules/a/index.js:1:1 slow
+      index.js:2:5 -> node_modules/a/index.js:2:14 go
+      node_modules/a/index.js:2:40 -> node_modules/a/index.js:1:1 slow
+    modules 2, functions 4, reachable 4, edges 3, alarms 1, notes 0
+run 1 audit --format json adv.json
+    {"alarms":[{"function":{"column":1,"line":1,"name":"slow","path":"node_modules/a/index.js"},"id":"X-1","package":"a","path":[{"callee":{"column":14,"line":2,"name":"go","path":"node_modules/a/index.js"},"column":5,"line":2,"path":"index.js"},{"callee":{"column":1,"line":1,"name":"slow","path":"node_modules/a/index.js"},"column":40,"line":2,"path":"node_modules/a/index.js"}],"version":"1.1.0"}],"notes":[],"summary":{"alarms":1,"edges":3,"functions":4,"modules":2,"notes":0,"reachable":4}}
+# Selectors name each function once.
+file adv.json {"advisories":[
+    {"id":"X-1","package":"a","range":"*","functions":[
+    {"file":"index.js","name":"slow"},{"file":"*","name":"slow"},{"file":"other.js","name":"*"}]},
+    {"id":"X-2","package":"a","range":">1.1.0","functions":[{"file":"*","name":"*"}]}]}
+run 1 audit adv.json
+    alarm X-1 a 1.1.0 node_modules/a/index.js:1:1 slow
+      index.js:2:5 -> node_modules/a/index.js:2:14 go
+      node_modules/a/index.js:2:40 -> node_modules/a/index.js:1:1 slow
+    modules 2, functions 4, reachable 4, edges 3, alarms 1, notes 0
+# One text in two packages has one alarm.
+application
+file package-lock.json {"lockfileVersion":3,"packages":{
+    "node_modules/a":{"version":"1.0.0"},
+    "node_modules/b":{"version":"2.0.0"},
+    "":{"name":"app","version":"1.0.0"}}}
+file adv.json {"advisories":[
+    {"id":"X-1","package":"a","range":"<2.0.0","functions":[{"file":"index.js","name":"go"}]},
+    {"id":"X-2","package":"b","range":"<2.0.0","functions":[{"file":"index.js","name":"go"}]}]}
+file index.js
+    require("a").go(); require("b").go();
+file node_modules/a/index.js
+    exports.go = function () {};
+file node_modules/b/index.js
+    exports.go = function () {};
+run 1 audit adv.json
+    alarm X-1 a 1.0.0 node_modules/a/index.js:1:14 go
+      index.js:1:16 -> node_modules/a/index.js:1:14 go
+    modules 3, functions 5, reachable 5, edges 6, alarms 1, notes 0
+"#;
 
 #[test]
 fn an_empty_application_has_a_report(rt: HostRuntime) -> Result<(), Fail> {
-    let alloc = rt.alloc();
-    let body =
-        "{\"advisories\":[{\"id\":\"X-2\",\"package\":\"app\",\"range\":\"*\",\"functions\":[{\"file\":\"index.js\",\"name\":\"<module>\"}]}]}";
-    let body_out =
-        "alarm X-2 app 1.0.0 index.js:1:1 <module>\nmodules 1, functions 1, reachable 1, edges 0, alarms 1, notes 0\n";
-    let json =
-        "{\"alarms\":[],\"notes\":[],\"summary\":{\"alarms\":0,\"edges\":0,\"functions\":1,\"modules\":1,\"notes\":0,\"reachable\":1}}\n";
-    for (advisories, line, number, out) in [
-        (NONE, "audit adv.json", 0, EMPTY),
-        (NONE, "audit --format json adv.json", 0, json),
-        (body, "audit adv.json", 1, body_out),
-    ] {
-        let files = [
-            ("package-lock.json", LOCK),
-            ("adv.json", advisories),
-            ("index.js", ""),
-        ];
-        check(&rt, alloc, files.as_slice(), line, number, out, "")?;
-    }
-    Ok(())
+    applications_hold(&rt, rt.alloc(), EMPTY)
 }
 
-#[test]
-fn one_text_in_two_packages_has_one_alarm(rt: HostRuntime) -> Result<(), Fail> {
-    let alloc = rt.alloc();
-    let both =
-        "{\"advisories\":[{\"id\":\"X-1\",\"package\":\"a\",\"range\":\"<2.0.0\",\"functions\":[{\"file\":\"index.js\",\"name\":\"go\"}]},{\"id\":\"X-2\",\"package\":\"b\",\"range\":\"<2.0.0\",\"functions\":[{\"file\":\"index.js\",\"name\":\"go\"}]}]}";
-    let index = "require(\"a\").go(); require(\"b\").go();\n";
-    let out =
-        "alarm X-1 a 1.0.0 node_modules/a/index.js:1:14 go\n  index.js:1:16 -> node_modules/a/index.js:1:14 go\nmodules 3, functions 5, reachable 5, edges 6, alarms 1, notes 0\n";
-    let files = [
-        ("package-lock.json", LOCK_AB),
-        ("adv.json", both),
-        ("index.js", index),
-        ("node_modules/a/index.js", "exports.go = function () {};\n"),
-        ("node_modules/b/index.js", "exports.go = function () {};\n"),
-    ];
-    check(&rt, alloc, files.as_slice(), "audit adv.json", 1, out, "")
-}
-
-#[test]
-fn selectors_name_each_function_once(rt: HostRuntime) -> Result<(), Fail> {
-    let alloc = rt.alloc();
-    let many =
-        "{\"advisories\":[{\"id\":\"X-1\",\"package\":\"a\",\"range\":\"*\",\"functions\":[{\"file\":\"index.js\",\"name\":\"slow\"},{\"file\":\"*\",\"name\":\"slow\"},{\"file\":\"other.js\",\"name\":\"*\"}]},{\"id\":\"X-2\",\"package\":\"a\",\"range\":\">1.1.0\",\"functions\":[{\"file\":\"*\",\"name\":\"*\"}]}]}";
-    let files = [
-        ("package-lock.json", LOCK_A),
-        ("adv.json", many),
-        ("index.js", INDEX),
-        ("node_modules/a/index.js", PACKAGE),
-    ];
-    check(&rt, alloc, files.as_slice(), "audit adv.json", 1, ALARM, "")
-}
+const EMPTY: &str = r#"
+application
+file package-lock.json {"lockfileVersion":3,"packages":{"":{"name":"app","version":"1.0.0"}}}
+file index.js
+file adv.json {"advisories":[]}
+run 0 audit adv.json
+    modules 1, functions 1, reachable 1, edges 0, alarms 0, notes 0
+run 0 audit --format json adv.json
+    {"alarms":[],"notes":[],"summary":{"alarms":0,"edges":0,"functions":1,"modules":1,"notes":0,"reachable":1}}
+file adv.json {"advisories":[
+    {"id":"X-2","package":"app","range":"*","functions":[{"file":"index.js","name":"<module>"}]}]}
+run 1 audit adv.json
+    alarm X-2 app 1.0.0 index.js:1:1 <module>
+    modules 1, functions 1, reachable 1, edges 0, alarms 1, notes 0
+"#;
 
 #[test]
 fn notes_go_by_path_and_place(rt: HostRuntime) -> Result<(), Fail> {
-    let alloc = rt.alloc();
-    let lock =
-        "{\"lockfileVersion\":3,\"packages\":{\"\":{\"name\":\"app\",\"version\":\"1.0.0\"},\"x\":{\"name\":\"a\"},\"y\":{\"name\":\"a\",\"version\":\"1\"},\"z\":{\"name\":\"c\"}}}";
-    let files = [
-        ("package-lock.json", lock),
-        ("adv.json", SLOW),
-        (
-            "index.js",
-            "require(\"./b\");\nrequire();\nrequire(\"./absent\");\nrequire(\"./node_modules/a\");\n",
-        ),
-        ("b.js", "require(\"./c\");\n"),
-        ("c.js", "require(\"./no\"); x y\n"),
-        ("node_modules/a/index.js", "require(\"./gone\");\n"),
-    ];
-    let refused = "jam: c.js:1:20: not in the profile\n";
-    check(
-        &rt,
-        alloc,
-        files.as_slice(),
-        "audit adv.json",
-        2,
-        "",
-        refused,
-    )?;
-    let out =
-        "note c.js:1:1 skipped: not in the profile\nnote index.js:2:8 dynamic require\nnote index.js:3:8 not found: ./absent\nnote node_modules/a/index.js:1:1 not in the lockfile\nnote node_modules/a/index.js:1:8 not found: ./gone\nnote x no version\nnote y no version\nmodules 4, functions 4, reachable 4, edges 3, alarms 0, notes 7\n";
-    check(
-        &rt,
-        alloc,
-        files.as_slice(),
-        "audit --skip-refused adv.json",
-        0,
-        out,
-        "",
-    )
+    applications_hold(&rt, rt.alloc(), NOTES)
 }
 
-#[test]
-fn requires_of_no_text_and_of_absent_files_have_notes(rt: HostRuntime) -> Result<(), Fail> {
-    let alloc = rt.alloc();
-    let index =
-        "var n = \"./a\"; require(n);\nrequire(\"./absent\");\nrequire(\"fs\");\nrequire(\"node:x\");\n";
-    let files = [
-        ("package-lock.json", LOCK),
-        ("adv.json", NONE),
-        ("index.js", index),
-    ];
-    let out =
-        "note index.js:1:23 dynamic require\nnote index.js:2:8 not found: ./absent\nmodules 1, functions 1, reachable 1, edges 0, alarms 0, notes 2\n";
-    check(&rt, alloc, files.as_slice(), "audit adv.json", 0, out, "")
-}
+const NOTES: &str = r#"
+application
+file package-lock.json {"lockfileVersion":3,"packages":{
+    "":{"name":"app","version":"1.0.0"},
+    "x":{"name":"a"},
+    "y":{"name":"a","version":"1"},
+    "z":{"name":"c"}}}
+file adv.json {"advisories":[
+    {"id":"X-1","package":"a","range":"<1.2.0","functions":[{"file":"index.js","name":"slow"}]}]}
+file index.js
+    require("./b");
+    require();
+    require("./absent");
+    require("./node_modules/a");
+file b.js
+    require("./c");
+file c.js
+    require("./no"); x y
+file node_modules/a/index.js
+    require("./gone");
+run 2 audit adv.json
+    jam: c.js:1:20: not in the profile
+run 0 audit --skip-refused adv.json
+    note c.js:1:1 skipped: not in the profile
+    note index.js:2:8 dynamic require
+    note index.js:3:8 not found: ./absent
+    note node_modules/a/index.js:1:1 not in the lockfile
+    note node_modules/a/index.js:1:8 not found: ./gone
+    note x no version
+    note y no version
+    modules 4, functions 4, reachable 4, edges 3, alarms 0, notes 7
+# Requires of no text and of absent files.
+application
+file package-lock.json {"lockfileVersion":3,"packages":{"":{"name":"app","version":"1.0.0"}}}
+file adv.json {"advisories":[]}
+file index.js
+    var n = "./a"; require(n);
+    require("./absent");
+    require("fs");
+    require("node:x");
+run 0 audit adv.json
+    note index.js:1:23 dynamic require
+    note index.js:2:8 not found: ./absent
+    modules 1, functions 1, reachable 1, edges 0, alarms 0, notes 2
+# Modules outside the profile are refused or skipped.
+file index.js
+    require("./a"); require("./b");
+file a.js
+    with (x) y();
+file b.js )
+run 0 audit --skip-refused adv.json
+    note a.js:1:1 skipped: not in the profile
+    note b.js:1:1 skipped: not in the profile
+    modules 3, functions 3, reachable 3, edges 2, alarms 0, notes 2
+run 0 graph index.js --skip-refused
+    index.js:1:8 -> a.js:1:1 <module>
+    index.js:1:24 -> b.js:1:1 <module>
+run 2 graph index.js
+    jam: a.js:1:1: with
+"#;
 
-#[test]
-fn modules_that_require_one_another_have_edges(rt: HostRuntime) -> Result<(), Fail> {
-    let alloc = rt.alloc();
-    let files = [
-        ("index.js", "require(\"./a\");\n"),
-        ("a.js", "exports.x = 1; require(\"./b\").y();\n"),
-        (
-            "b.js",
-            "var a = require(\"./a\"); require(\"./b\");\nexports.y = function () { return a; };\n",
-        ),
-    ];
-    let out =
-        "a.js:1:23 -> b.js:1:1 <module>\na.js:1:32 -> b.js:2:13 y\nb.js:1:16 -> a.js:1:1 <module>\nb.js:1:32 -> b.js:1:1 <module>\nindex.js:1:8 -> a.js:1:1 <module>\n";
-    check(&rt, alloc, files.as_slice(), "graph index.js", 0, out, "")
-}
-
-#[test]
-fn modules_outside_the_profile_are_refused_or_skipped(rt: HostRuntime) -> Result<(), Fail> {
-    let alloc = rt.alloc();
-    let files = [
-        ("package-lock.json", LOCK),
-        ("adv.json", NONE),
-        ("index.js", "require(\"./a\"); require(\"./b\");\n"),
-        ("a.js", "with (x) y();\n"),
-        ("b.js", ")"),
-    ];
-    let out =
-        "note a.js:1:1 skipped: not in the profile\nnote b.js:1:1 skipped: not in the profile\nmodules 3, functions 3, reachable 3, edges 2, alarms 0, notes 2\n";
-    let graph = "index.js:1:8 -> a.js:1:1 <module>\nindex.js:1:24 -> b.js:1:1 <module>\n";
-    check(
-        &rt,
-        alloc,
-        files.as_slice(),
-        "audit --skip-refused adv.json",
-        0,
-        out,
-        "",
-    )?;
-    check(
-        &rt,
-        alloc,
-        files.as_slice(),
-        "graph index.js --skip-refused",
-        0,
-        graph,
-        "",
-    )?;
-    check(
-        &rt,
-        alloc,
-        files.as_slice(),
-        "graph index.js",
-        2,
-        "",
-        "jam: a.js:1:1: with\n",
-    )
-}
-
-const SERVER: &str =
-    "\"use strict\";\nvar http = require(\"http\");\nvar query = require(\"@acme/query\");\nvar Store = require(\"store\");\nvar fast = require(\"fast-path\");\nvar server = http.createServer(function (req, res) {\n  var q = query.parse(req.url);\n  var s = new Store(q);\n  s.list().forEach(function (item) { return res.write(item.label); });\n  res.end(s.size);\n});\nserver.listen(8080);\n";
-
-const QUERY: &str =
-    "Object.defineProperty(exports, \"__esModule\", true);\nexports.parse = parse;\nvar deep_1 = require(\"deep\");\nfunction parse(text) { return deep_1.merge(null, text); }\n";
-
-const DEEP: &str =
-    "(function (root, factory) {\n  module.exports = factory();\n}(this, function () {\n  function copy(x) { return x; }\n  return copy;\n}));\n";
-
-const STORE: &str =
-    "var copy = require(\"deep\");\nvar info = require(\"./info.json\");\nfunction Store(q) { this.q = copy(q); }\nStore.prototype.list = function () { return this; };\nStore.prototype.size = function () { return count(this); };\nfunction count(s) { return info.max; }\nmodule.exports = Store;\n";
-
-// Packages with conditions of exports, a `main` without its ending, and one name in two versions.
 #[test]
 fn each_version_of_a_package_has_alarms_of_its_own(rt: HostRuntime) -> Result<(), Fail> {
-    let alloc = rt.alloc();
-    let lock =
-        "{\"lockfileVersion\":3,\"packages\":{\"\":{\"name\":\"shop\",\"version\":\"1.0.0\"},\"node_modules/@acme/query\":{\"version\":\"1.0.0\"},\"node_modules/@acme/query/node_modules/deep\":{\"version\":\"2.0.1\"},\"node_modules/deep\":{\"version\":\"1.0.5\"},\"node_modules/store\":{\"version\":\"1.4.0\"}}}";
-    let advisories =
-        "{\"advisories\":[{\"id\":\"A-1\",\"package\":\"deep\",\"range\":\"<2.0.0\",\"functions\":[{\"file\":\"lib/deep.js\",\"name\":\"copy\"}]},{\"id\":\"A-2\",\"package\":\"deep\",\"range\":\">=2.0.0 <2.0.2\",\"functions\":[{\"file\":\"index.js\",\"name\":\"merge\"},{\"file\":\"index.js\",\"name\":\"absent\"},{\"file\":\"index.js\",\"name\":\"<module>\"}]},{\"id\":\"A-3\",\"package\":\"store\",\"range\":\"<1.0.0\",\"functions\":[{\"file\":\"*\",\"name\":\"*\"}]}]}";
-    let files = [
-        ("package-lock.json", lock),
-        ("adv.json", advisories),
-        (
-            "package.json",
-            "{\"name\":\"shop\",\"main\":\"lib/server.js\"}",
-        ),
-        ("lib/server.js", SERVER),
-        (
-            "node_modules/@acme/query/package.json",
-            "{\"name\":\"@acme/query\",\"exports\":{\".\":{\"require\":\"./dist/q.js\",\"default\":\"./q.mjs\"}}}",
-        ),
-        ("node_modules/@acme/query/dist/q.js", QUERY),
-        (
-            "node_modules/@acme/query/node_modules/deep/index.js",
-            "exports.merge = function merge(a, b) { return b; };\n",
-        ),
-        ("node_modules/deep/package.json", "{\"main\":\"lib/deep\"}"),
-        ("node_modules/deep/lib/deep.js", DEEP),
-        ("node_modules/store/package.json", "{\"name\":\"store\"}"),
-        ("node_modules/store/info.json", "{\"max\":3}"),
-        ("node_modules/store/index.js", STORE),
-    ];
-    let out =
-        "alarm A-1 deep 1.0.5 node_modules/deep/lib/deep.js:4:3 copy\n  lib/server.js:6:31 -> lib/server.js:6:32 <anonymous>\n  lib/server.js:8:11 -> node_modules/store/index.js:3:1 Store\n  node_modules/store/index.js:3:34 -> node_modules/deep/lib/deep.js:4:3 copy\nalarm A-2 deep 2.0.1 node_modules/@acme/query/node_modules/deep/index.js:1:1 <module>\n  lib/server.js:3:20 -> node_modules/@acme/query/dist/q.js:1:1 <module>\n  node_modules/@acme/query/dist/q.js:3:21 -> node_modules/@acme/query/node_modules/deep/index.js:1:1 <module>\nalarm A-2 deep 2.0.1 node_modules/@acme/query/node_modules/deep/index.js:1:17 merge\n  lib/server.js:6:31 -> lib/server.js:6:32 <anonymous>\n  lib/server.js:7:22 -> node_modules/@acme/query/dist/q.js:4:1 parse\n  node_modules/@acme/query/dist/q.js:4:43 -> node_modules/@acme/query/node_modules/deep/index.js:1:17 merge\nnote lib/server.js:5:19 not found: fast-path\nmodules 5, functions 16, reachable 14, edges 14, alarms 3, notes 1\n";
-    check(&rt, alloc, files.as_slice(), "audit adv.json", 1, out, "")
+    applications_hold(&rt, rt.alloc(), VERSIONS)
 }
+
+const VERSIONS: &str = r#"
+# Packages with conditions of exports, a `main` without its ending, and one name in two versions.
+application
+file package-lock.json {"lockfileVersion":3,"packages":{
+    "":{"name":"shop","version":"1.0.0"},
+    "node_modules/@acme/query":{"version":"1.0.0"},
+    "node_modules/@acme/query/node_modules/deep":{"version":"2.0.1"},
+    "node_modules/deep":{"version":"1.0.5"},
+    "node_modules/store":{"version":"1.4.0"}}}
+file adv.json {"advisories":[
+    {"id":"A-1","package":"deep","range":"<2.0.0","functions":[{"file":"lib/deep.js","name":"copy"}]},
+    {"id":"A-2","package":"deep","range":">=2.0.0 <2.0.2","functions":[
+    {"file":"index.js","name":"merge"},
+    {"file":"index.js","name":"absent"},
+    {"file":"index.js","name":"<module>"}]},
+    {"id":"A-3","package":"store","range":"<1.0.0","functions":[{"file":"*","name":"*"}]}]}
+file package.json {"name":"shop","main":"lib/server.js"}
+file lib/server.js
+    "use strict";
+    var http = require("http");
+    var query = require("@acme/query");
+    var Store = require("store");
+    var fast = require("fast-path");
+    var server = http.createServer(function (req, res) {
+      var q = query.parse(req.url);
+      var s = new Store(q);
+      s.list().forEach(function (item) { return res.write(item.label); });
+      res.end(s.size);
+    });
+    server.listen(8080);
+file node_modules/@acme/query/package.json {"name":"@acme/query",
+    "exports":{".":{"require":"./dist/q.js","default":"./q.mjs"}}}
+file node_modules/@acme/query/dist/q.js
+    Object.defineProperty(exports, "__esModule", true);
+    exports.parse = parse;
+    var deep_1 = require("deep");
+    function parse(text) { return deep_1.merge(null, text); }
+file node_modules/@acme/query/node_modules/deep/index.js
+    exports.merge = function merge(a, b) { return b; };
+file node_modules/deep/package.json {"main":"lib/deep"}
+file node_modules/deep/lib/deep.js
+    (function (root, factory) {
+      module.exports = factory();
+    }(this, function () {
+      function copy(x) { return x; }
+      return copy;
+    }));
+file node_modules/store/package.json {"name":"store"}
+file node_modules/store/info.json {"max":3}
+file node_modules/store/index.js
+    var copy = require("deep");
+    var info = require("./info.json");
+    function Store(q) { this.q = copy(q); }
+    Store.prototype.list = function () { return this; };
+    Store.prototype.size = function () { return count(this); };
+    function count(s) { return info.max; }
+    module.exports = Store;
+run 1 audit adv.json
+    alarm A-1 deep 1.0.5 node_modules/deep/lib/deep.js:4:3 copy
+      lib/server.js:6:31 -> lib/server.js:6:32 <anonymous>
+      lib/server.js:8:11 -> node_modules/store/index.js:3:1 Store
+      node_modules/store/index.js:3:34 -> node_modules/deep/lib/deep.js:4:3 copy
+    alarm A-2 deep 2.0.1 node_modules/@acme/query/node_modules/deep/index.js:1:1 <module>
+      lib/server.js:3:20 -> node_modules/@acme/query/dist/q.js:1:1 <module>
+      node_modules/@acme/query/dist/q.js:3:21 -> node_modules/@acme/query/node_modules/deep/index.js:1:1 <module>
+    alarm A-2 deep 2.0.1 node_modules/@acme/query/node_modules/deep/index.js:1:17 merge
+      lib/server.js:6:31 -> lib/server.js:6:32 <anonymous>
+      lib/server.js:7:22 -> node_modules/@acme/query/dist/q.js:4:1 parse
+      node_modules/@acme/query/dist/q.js:4:43 -> node_modules/@acme/query/node_modules/deep/index.js:1:17 merge
+    note lib/server.js:5:19 not found: fast-path
+    modules 5, functions 16, reachable 14, edges 14, alarms 3, notes 1
+"#;

@@ -1,108 +1,10 @@
-ghost use Rattle.std.specs.Prelude.{◌≡◌, ◌<◌};
-
+//! Tests of `graph` over one file: its texts, its words and its faults.
+use crate::applications::applications_hold;
+use crate::bench::{bench_over, check_run};
 use crate::rows::{RowKind, rows_hold};
-use jam_app::{Status, run};
-use jam_base::{Gate, List, MemFolder, MemKeeper, MemSink, ModulePath, Steps, Text};
+use jam_base::List;
 use std::alloc::Global;
-use std::marker::{Brand, Sync};
-use std::process::Abort;
-use std::sync::ledger::{Blank, Ledger};
 use std::test::Fail;
-use std::thread::Threads;
-
-pub(crate) const HELP: &str =
-    "Tells which functions that advisories name an application can call. Run it in the application folder.\n\nUsage: jam <COMMAND>\n\nCommands:\n  audit  Report which functions that the advisories in a file name the application can call\n  graph  Print the calls that the application of an entry file can make\n\nReport which functions that the advisories in a file name the application can call\n\nUsage: jam audit [OPTIONS] <ADVISORIES>\n\nArguments:\n  <ADVISORIES>  The file of advisories, by its path from the application folder\n\nOptions:\n      --entry <PATH>     The file that the application begins with, as `require` would find it\n      --format <FORMAT>  How the report is written: text or json\n      --skip-refused     Pass over modules outside the profile, with a note, in place of refusing them\n\nExample: jam audit --format json advisories.json\n\nPrint the calls that the application of an entry file can make\n\nUsage: jam graph [OPTIONS] <FILE>\n\nArguments:\n  <FILE>  The file that the application begins with, as `require` would find it\n\nOptions:\n      --skip-refused  Pass over modules outside the profile, with a note, in place of refusing them\n\nExample: jam graph index.js\n";
-
-// What a run is over, and what it left.
-#[derive(Drop)]
-pub(crate) struct Bench {
-    pub(crate) folder: MemFolder,
-    pub(crate) out: MemSink,
-    pub(crate) err: MemSink,
-}
-
-// No files, and an output that takes all.
-pub(crate) fn empty_bench(alloc: Global) -> Bench {
-    Bench {
-        folder: MemFolder::new(alloc),
-        out: MemSink::new(alloc),
-        err: MemSink::new(alloc),
-    }
-}
-
-// A folder with this text at this path, whose call with this number fails, and an output with this room.
-fn set_up(alloc: Global, path: &str, text: &[u8], failing: u64, room: u64) -> Result<Bench, Fail> {
-    let mut folder = MemFolder::new(alloc);
-    let path = ModulePath::read(alloc, path)?.ok_or("path")?;
-    folder.add(path, text.to_vec(alloc)?)?;
-    folder.fail_at(List::of(vec![in alloc; failing]?));
-    let mut out = MemSink::new(alloc);
-    out.fail_after(room);
-    Ok(Bench {
-        folder,
-        out,
-        err: MemSink::new(alloc),
-    })
-}
-
-// A gate that no run may pass.
-#[derive(Drop)]
-struct Closed<'a, R>(&'a R);
-
-impl<'a, R: Abort + Sync> Gate for Closed<'a, R> {
-    fn at(&self, package: u32) {
-        assert!(self.0; false, "package {package}");
-    }
-}
-
-pub(crate) fn ran<R: Threads + Abort + Sync, L: Ledger>(
-    rt: &R,
-    alloc: Global,
-    bench: &mut Bench,
-    words: &[Text],
-    blank: Blank,
-) -> Status
-    requires name { blank.name ≡ L.name }
-    requires parts { blank.parts ≡ L.parts }
-    requires some { 0 < L.parts }
-{
-    let mut keeper = MemKeeper::new(alloc);
-    let mut steps = Steps::<L>::new(blank);
-    run(
-        rt,
-        alloc,
-        words,
-        &mut bench.folder,
-        &mut keeper,
-        &mut bench.out,
-        &mut bench.err,
-        &Closed(rt),
-        &mut steps,
-    )
-}
-
-// The words of a line, which stand between spaces.
-pub(crate) fn words_of(alloc: Global, line: &str) -> Result<Vec<Text>, Fail> {
-    let mut words = Vec::new(alloc);
-    for word in line.split(' ') {
-        words.push(Text::of(alloc, word)?)?;
-    }
-    Ok(words)
-}
-
-// Compares what a run left: its status, the output and the line on err.
-pub(crate) fn compare(
-    rt: &impl Abort,
-    bench: &Bench,
-    status: &Status,
-    number: u8,
-    out: &str,
-    err: &str,
-) {
-    assert_eq!(rt; status.number(), number, "{out}{err}");
-    assert_eq!(rt; bench.out.bytes(), out.as_bytes());
-    assert_eq!(rt; bench.err.bytes(), err.as_bytes());
-}
 
 #[test]
 fn a_text_is_taken_or_refused_at_its_place(rt: HostRuntime) -> Result<(), Fail> {
@@ -129,29 +31,27 @@ require("./λόγος"); ?
 // The mark U+FEFF in front goes, and only that one: the next one is white space.
 #[test]
 fn a_text_may_begin_with_a_mark(rt: HostRuntime) -> Result<(), Fail> {
-    let alloc = rt.alloc();
-    let refused = "jam: index.js:1:3: not in the profile\n";
-    let behind = "jam: index.js:1:2: not in the profile\n";
-    for (text, number, err) in [
-        (b"".as_slice(), 0, ""),
-        (b"\xef\xbb\xbff();".as_slice(), 0, ""),
-        (b"\xef\xbb\xbff(".as_slice(), 2, refused),
-        (b"\xef\xbb\xbf\xef\xbb\xbf".as_slice(), 0, ""),
-        (b"\xef\xbb\xbf\xef\xbb\xbf?".as_slice(), 2, behind),
-    ] {
-        let mut bench = set_up(alloc, "index.js", text, 0, 99)?;
-        let words = words_of(alloc, "graph ./a/../index.js")?;
-        let status = ran::<HostRuntime, Brand>(
-            &rt,
-            alloc,
-            &mut bench,
-            words.as_slice(),
-            Blank::new(1),
-        );
-        compare(&rt, &bench, &status, number, "", err);
-    }
-    Ok(())
+    applications_hold(&rt, rt.alloc(), MARKS)
 }
+
+const MARKS: &str = "
+application
+file index.js
+run 0 graph ./a/../index.js
+file index.js \u{feff}f();
+run 0 graph ./a/../index.js
+file index.js \u{feff}f(
+run 2 graph ./a/../index.js
+    jam: index.js:1:3: not in the profile
+file index.js \u{feff}\u{feff}
+run 0 graph ./a/../index.js
+file index.js \u{feff}\u{feff}?
+run 2 graph ./a/../index.js
+    jam: index.js:1:2: not in the profile
+file index.js \u{feff}f(); function f() { }
+run 0 graph index.js
+    index.js:1:2 -> index.js:1:6 f
+";
 
 // Each byte that begins nothing is a character, and so is the front of one that breaks off.
 #[test]
@@ -160,22 +60,17 @@ fn bytes_that_begin_nothing_are_characters(rt: HostRuntime) -> Result<(), Fail> 
     let first = "jam: index.js:1:1: not in the profile\n";
     let two = "jam: index.js:1:18: not in the profile\n";
     let one = "jam: index.js:1:17: not in the profile\n";
-    for (text, number, err) in [
-        (b"\xff".as_slice(), 2, first),
-        (b"require(\"./\xff\xff\");".as_slice(), 0, ""),
-        (b"require(\"./\xff\xff\"); ?".as_slice(), 2, two),
-        (b"require(\"./\xe2\x82\"); ?".as_slice(), 2, one),
+    let call = "index.js:1:11 -> index.js:1:15 f\n";
+    let comment = b"/* \xff\xe2\x82 */ f(); function f() { }".as_slice();
+    for (text, number, out, err) in [
+        (b"\xff".as_slice(), 2, "", first),
+        (b"require(\"./\xff\xff\");".as_slice(), 0, "", ""),
+        (b"require(\"./\xff\xff\"); ?".as_slice(), 2, "", two),
+        (b"require(\"./\xe2\x82\"); ?".as_slice(), 2, "", one),
+        (comment, 0, call, ""),
     ] {
-        let mut bench = set_up(alloc, "index.js", text, 0, 99)?;
-        let words = words_of(alloc, "graph index.js")?;
-        let status = ran::<HostRuntime, Brand>(
-            &rt,
-            alloc,
-            &mut bench,
-            words.as_slice(),
-            Blank::new(1),
-        );
-        compare(&rt, &bench, &status, number, "", err);
+        let mut bench = bench_over(alloc, "index.js", text)?;
+        check_run(&rt, alloc, &mut bench, "graph index.js", number, out, err)?;
     }
     Ok(())
 }
@@ -208,63 +103,43 @@ eval2 x;
 
 #[test]
 fn texts_are_taken_whatever_they_are_written_in(rt: HostRuntime) -> Result<(), Fail> {
-    let alloc = rt.alloc();
-    for (text, out) in [
-        // A comment in every gap.
-        (
-            "/**/function/**/f/**/(/**/a/**/,/**/b/**/)/**/{/**/return/**/a/**/./**/g/**/(/**/b/**/)/**/;/**/}/**/\n/**/f/**/(/**/)/**/;//".as_bytes(),
-            "index.js:2:10 -> index.js:1:5 f\n",
-        ),
-        (
-            b"#!/usr/bin/env node\nf();\nfunction f() { }\n".as_slice(),
-            "index.js:2:2 -> index.js:3:1 f\n",
-        ),
-        (
-            b"// a\r\nfunction f() { }\r\nf();\r\n".as_slice(),
-            "index.js:3:2 -> index.js:2:1 f\n",
-        ),
-        (
-            "// a\u{2028}function f() { }\u{2028}f();".as_bytes(),
-            "index.js:3:2 -> index.js:2:1 f\n",
-        ),
-        // Greek names, and one with U+200D.
-        (
-            "function αβγ() { }\nαβγ();".as_bytes(),
-            "index.js:2:4 -> index.js:1:1 αβγ\n",
-        ),
-        (
-            "function a\u{200d}b() { }\na\u{200d}b();".as_bytes(),
-            "index.js:2:4 -> index.js:1:1 a\u{200d}b\n",
-        ),
-        (
-            b"require(\"\\x2e/a\");".as_slice(),
-            "index.js:1:8 -> a.js:1:1 <module>\n",
-        ),
-        (
-            b"\xef\xbb\xbff(); function f() { }".as_slice(),
-            "index.js:1:2 -> index.js:1:6 f\n",
-        ),
-        // In a comment stands a byte that begins nothing, and the front of a character that breaks off.
-        (
-            b"/* \xff\xe2\x82 */ f(); function f() { }".as_slice(),
-            "index.js:1:11 -> index.js:1:15 f\n",
-        ),
-    ] {
-        let mut bench = set_up(alloc, "index.js", text, 0, 99)?;
-        let other = ModulePath::read(alloc, "a.js")?.ok_or("path")?;
-        bench.folder.add(other, b"".to_vec(alloc)?)?;
-        let words = words_of(alloc, "graph index.js")?;
-        let status = ran::<HostRuntime, Brand>(
-            &rt,
-            alloc,
-            &mut bench,
-            words.as_slice(),
-            Blank::new(1),
-        );
-        compare(&rt, &bench, &status, 0, out, "");
-    }
-    Ok(())
+    applications_hold(&rt, rt.alloc(), WRITTEN)
 }
+
+const WRITTEN: &str = "
+application
+# A comment in every gap.
+file index.js /**/function/**/f/**/(/**/a/**/,/**/b/**/)/**/{/**/return/**/a/**/./**/g/**/(/**/b/**/)/**/;/**/}/**/¶/**/f/**/(/**/)/**/;//
+run 0 graph index.js
+    index.js:2:10 -> index.js:1:5 f
+file index.js
+    #!/usr/bin/env node
+    f();
+    function f() { }
+run 0 graph index.js
+    index.js:2:2 -> index.js:3:1 f
+file index.js
+    // a␍
+    function f() { }␍
+    f();␍
+run 0 graph index.js
+    index.js:3:2 -> index.js:2:1 f
+file index.js // a\u{2028}function f() { }\u{2028}f();
+run 0 graph index.js
+    index.js:3:2 -> index.js:2:1 f
+# Greek names, and one with U+200D.
+file index.js function αβγ() { }¶αβγ();
+run 0 graph index.js
+    index.js:2:4 -> index.js:1:1 αβγ
+file index.js function a\u{200d}b() { }¶a\u{200d}b();
+run 0 graph index.js
+    index.js:2:4 -> index.js:1:1 a\u{200d}b
+# An escape in a string.
+file a.js
+file index.js require(\"\\x2e/a\");
+run 0 graph index.js
+    index.js:1:8 -> a.js:1:1 <module>
+";
 
 // A name in so many round brackets, as a statement.
 fn nested(alloc: Global, count: u32) -> Result<String, Fail> {
@@ -286,16 +161,8 @@ fn brackets_may_nest_254_times(rt: HostRuntime) -> Result<(), Fail> {
     let refused = "jam: index.js:1:256: not in the profile\n";
     for (count, number, err) in [(254, 0, ""), (255, 2, refused)] {
         let text = nested(alloc, count)?;
-        let mut bench = set_up(alloc, "index.js", text.as_bytes(), 0, 99)?;
-        let words = words_of(alloc, "graph index.js")?;
-        let status = ran::<HostRuntime, Brand>(
-            &rt,
-            alloc,
-            &mut bench,
-            words.as_slice(),
-            Blank::new(1),
-        );
-        compare(&rt, &bench, &status, number, "", err);
+        let mut bench = bench_over(alloc, "index.js", text.as_bytes())?;
+        check_run(&rt, alloc, &mut bench, "graph index.js", number, "", err)?;
     }
     Ok(())
 }
@@ -331,28 +198,17 @@ b/index.js graph b
 
 #[test]
 fn a_fault_at_the_entry_is_a_failed_read(rt: HostRuntime) -> Result<(), Fail> {
-    let alloc = rt.alloc();
-    let failed = "jam: read failed\n";
-    for (path, line, failing, number, err) in [
-        ("index.js", "graph index.js", 1, 3, failed),
-        ("index.js", "graph index.js", 2, 3, failed),
-        ("index.js", "graph index.js", 3, 0, ""),
-        ("a/index.js", "graph a", 5, 3, failed),
-        ("a/index.js", "graph a", 6, 3, failed),
-    ] {
-        let mut bench = set_up(alloc, path, b"", failing, 99)?;
-        let words = words_of(alloc, line)?;
-        let status = ran::<HostRuntime, Brand>(
-            &rt,
-            alloc,
-            &mut bench,
-            words.as_slice(),
-            Blank::new(1),
-        );
-        compare(&rt, &bench, &status, number, "", err);
-    }
-    Ok(())
+    applications_hold(&rt, rt.alloc(), FAULTS_AT_THE_ENTRY)
 }
+
+const FAULTS_AT_THE_ENTRY: &str = r#"
+application
+file index.js
+calls 2 0 graph index.js
+application
+file a/index.js
+calls 7 0 graph a
+"#;
 
 #[test]
 fn words_are_canonical_or_a_usage(rt: HostRuntime) -> Result<(), Fail> {
@@ -461,55 +317,39 @@ function require() { }¶var a = require("./a");¶
 
 #[test]
 fn a_fault_ends_the_run_where_it_occurs(rt: HostRuntime) -> Result<(), Fail> {
-    let alloc = rt.alloc();
-    for (failing, room, number, out, err) in [
-        (0, 4, 4, "inde", "jam: write failed\n"),
-        (1, 99, 3, "", "jam: read failed\n"),
-        (2, 99, 3, "", "jam: read failed\n"),
-    ] {
-        let text = b"function f() { g(); }\nfunction g() { }\nf();\n".as_slice();
-        let mut bench = set_up(alloc, "index.js", text, failing, room)?;
-        let words = words_of(alloc, "graph index.js")?;
-        let status = ran::<HostRuntime, Brand>(
-            &rt,
-            alloc,
-            &mut bench,
-            words.as_slice(),
-            Blank::new(1),
-        );
-        compare(&rt, &bench, &status, number, out, err);
-    }
-    Ok(())
+    applications_hold(&rt, rt.alloc(), FAULTS)
 }
+
+const FAULTS: &str = r#"
+application
+file index.js
+    function f() { g(); }
+    function g() { }
+    f();
+calls 2 0 graph index.js
+    index.js:1:17 -> index.js:2:1 g
+    index.js:3:2 -> index.js:1:1 f
+bytes graph index.js
+    index.js:1:17 -> index.js:2:1 g
+    index.js:3:2 -> index.js:1:1 f
+"#;
 
 #[test]
 fn a_failing_error_output_changes_nothing_else(rt: HostRuntime) -> Result<(), Fail> {
     let alloc = rt.alloc();
+    let edge = "index.js:2:2 -> index.js:1:1 f\n";
     for (line, failing, room, number, out) in [
-        (
-            "graph index.js",
-            0,
-            99,
-            0,
-            "index.js:2:2 -> index.js:1:1 f\n",
-        ),
+        ("graph index.js", 0, 99, 0, edge),
         ("graph none.js", 0, 99, 2, ""),
         ("graph index.js", 1, 99, 3, ""),
         ("graph index.js", 0, 4, 4, "inde"),
         ("graph", 0, 99, 6, ""),
     ] {
-        let text = b"function f() { }\nf();\n".as_slice();
-        let mut bench = set_up(alloc, "index.js", text, failing, room)?;
+        let mut bench = bench_over(alloc, "index.js", b"function f() { }\nf();\n")?;
+        bench.folder.fail_at(List::of(vec![in alloc; failing]?));
+        bench.out.fail_after(room);
         bench.err.fail_after(0);
-        let words = words_of(alloc, line)?;
-        let status = ran::<HostRuntime, Brand>(
-            &rt,
-            alloc,
-            &mut bench,
-            words.as_slice(),
-            Blank::new(1),
-        );
-        compare(&rt, &bench, &status, number, out, "");
+        check_run(&rt, alloc, &mut bench, line, number, out, "")?;
     }
     Ok(())
 }

@@ -2,7 +2,11 @@
 #![tactic(auto)]
 
 #[cfg(test)]
+mod applications;
+#[cfg(test)]
 mod audit_tests;
+#[cfg(test)]
+mod bench;
 #[cfg(test)]
 mod jam_app_tests;
 #[cfg(test)]

@@ -1,122 +1,89 @@
-use crate::jam_app_tests::{Bench, compare, empty_bench, ran, words_of};
-use jam_base::{List, ModulePath, Text};
+//! Tests of loading: rounds of modules, bad modules, limits and faults.
+use crate::applications::applications_hold;
+use crate::bench::{Bench, add, bench_over, check_run, empty_bench, status_of};
+use jam_base::{List, Text};
 use std::alloc::Global;
-use std::marker::Brand;
-use std::sync::ledger::Blank;
 use std::test::Fail;
-
-// Puts a file at a path.
-fn add(alloc: Global, bench: &mut Bench, path: &str, text: &[u8]) -> Result<(), Fail> {
-    let path = ModulePath::read(alloc, path)?.ok_or("path")?;
-    bench.folder.add(path, text.to_vec(alloc)?)?;
-    Ok(())
-}
-
-// Files with their texts, over which nothing fails.
-fn files(alloc: Global, files: &[(&str, &str)]) -> Result<Bench, Fail> {
-    let mut bench = empty_bench(alloc);
-    for (path, text) in files {
-        add(alloc, &mut bench, path, text.as_bytes())?;
-    }
-    Ok(bench)
-}
-
-// An entry that requires a module with this text, and other files.
-fn around(alloc: Global, b: &str) -> Result<Bench, Fail> {
-    files(
-        alloc,
-        &[
-            ("index.js", "require(\"./b\");"),
-            ("b.js", b),
-            ("c.js", ""),
-            ("a/e.js", "require(\"../c\");"),
-            ("f.json", "?"),
-            ("λ.js", ""),
-            ("bad.js", "\n  ?"),
-            ("a/bad.js", "?"),
-        ],
-    )
-}
 
 #[test]
 fn modules_are_loaded_from_round_to_round(rt: HostRuntime) -> Result<(), Fail> {
-    let alloc = rt.alloc();
-    for (b, out) in [
-        // A cycle, a module that is required twice, targets that aren't there, and one above the folder.
-        (
-            "require(\"./index\"); require(\"./c\");",
-            "b.js:1:8 -> index.js:1:1 <module>\nb.js:1:28 -> c.js:1:1 <module>\n\
-             index.js:1:8 -> b.js:1:1 <module>\n",
-        ),
-        (
-            "require(\"./c\"); require(\"./c.js\"); require(\"./b\");",
-            "b.js:1:8 -> c.js:1:1 <module>\nb.js:1:24 -> c.js:1:1 <module>\n\
-             b.js:1:43 -> b.js:1:1 <module>\nindex.js:1:8 -> b.js:1:1 <module>\n",
-        ),
-        (
-            "require(\"./d\"); require(\"../c\");",
-            "index.js:1:8 -> b.js:1:1 <module>\n",
-        ),
-        // A name that is not ASCII.
-        (
-            "require(\"./λ\"); require(\"./c\");",
-            "b.js:1:8 -> λ.js:1:1 <module>\nb.js:1:24 -> c.js:1:1 <module>\n\
-             index.js:1:8 -> b.js:1:1 <module>\n",
-        ),
-        // The target of a require in a folder, and a file that is no code.
-        (
-            "require(\"./a/e\"); require(\"./f.json\");",
-            "a/e.js:1:8 -> c.js:1:1 <module>\nb.js:1:8 -> a/e.js:1:1 <module>\n\
-             index.js:1:8 -> b.js:1:1 <module>\n",
-        ),
-    ] {
-        let mut bench = around(alloc, b)?;
-        let words = words_of(alloc, "graph index.js")?;
-        let status = ran::<HostRuntime, Brand>(
-            &rt,
-            alloc,
-            &mut bench,
-            words.as_slice(),
-            Blank::new(1),
-        );
-        compare(&rt, &bench, &status, 0, out, "");
-    }
-    Ok(())
+    applications_hold(&rt, rt.alloc(), ROUNDS)
 }
+
+const ROUNDS: &str = r#"
+application
+file index.js require("./b");
+file c.js
+file a/e.js require("../c");
+file f.json ?
+file λ.js
+# A cycle, a module that is required twice, targets that aren't there, and one above the folder.
+file b.js require("./index"); require("./c");
+run 0 graph index.js
+    b.js:1:8 -> index.js:1:1 <module>
+    b.js:1:28 -> c.js:1:1 <module>
+    index.js:1:8 -> b.js:1:1 <module>
+file b.js require("./c"); require("./c.js"); require("./b");
+run 0 graph index.js
+    b.js:1:8 -> c.js:1:1 <module>
+    b.js:1:24 -> c.js:1:1 <module>
+    b.js:1:43 -> b.js:1:1 <module>
+    index.js:1:8 -> b.js:1:1 <module>
+file b.js require("./d"); require("../c");
+run 0 graph index.js
+    index.js:1:8 -> b.js:1:1 <module>
+# A name that is not ASCII.
+file b.js require("./λ"); require("./c");
+run 0 graph index.js
+    b.js:1:8 -> λ.js:1:1 <module>
+    b.js:1:24 -> c.js:1:1 <module>
+    index.js:1:8 -> b.js:1:1 <module>
+# The target of a require in a folder, and a file that is no code.
+file b.js require("./a/e"); require("./f.json");
+run 0 graph index.js
+    a/e.js:1:8 -> c.js:1:1 <module>
+    b.js:1:8 -> a/e.js:1:1 <module>
+    index.js:1:8 -> b.js:1:1 <module>
+# Modules that require one another.
+application
+file index.js
+    require("./a");
+file a.js
+    exports.x = 1; require("./b").y();
+file b.js
+    var a = require("./a"); require("./b");
+    exports.y = function () { return a; };
+run 0 graph index.js
+    a.js:1:23 -> b.js:1:1 <module>
+    a.js:1:32 -> b.js:2:13 y
+    b.js:1:16 -> a.js:1:1 <module>
+    b.js:1:32 -> b.js:1:1 <module>
+    index.js:1:8 -> a.js:1:1 <module>
+"#;
 
 #[test]
 fn the_first_bad_module_of_a_round_is_named(rt: HostRuntime) -> Result<(), Fail> {
-    let alloc = rt.alloc();
-    for (b, err) in [
-        // A module two rounds on has no tree.
-        (
-            "require(\"./bad\");",
-            "jam: bad.js:2:3: not in the profile\n",
-        ),
-        // Of two in one round the first by its path is named.
-        (
-            "require(\"./bad\"); require(\"./a/bad\");",
-            "jam: a/bad.js:1:1: not in the profile\n",
-        ),
-        // A round comes before the modules that it requires.
-        (
-            "require(\"./a/bad\"); f(",
-            "jam: b.js:1:23: not in the profile\n",
-        ),
-    ] {
-        let mut bench = around(alloc, b)?;
-        let words = words_of(alloc, "graph index.js")?;
-        let status = ran::<HostRuntime, Brand>(
-            &rt,
-            alloc,
-            &mut bench,
-            words.as_slice(),
-            Blank::new(1),
-        );
-        compare(&rt, &bench, &status, 2, "", err);
-    }
-    Ok(())
+    applications_hold(&rt, rt.alloc(), BAD_MODULES)
 }
+
+const BAD_MODULES: &str = r#"
+application
+file index.js require("./b");
+file bad.js ¶  ?
+file a/bad.js ?
+# A module two rounds on has no tree.
+file b.js require("./bad");
+run 2 graph index.js
+    jam: bad.js:2:3: not in the profile
+# Of two in one round the first by its path is named.
+file b.js require("./bad"); require("./a/bad");
+run 2 graph index.js
+    jam: a/bad.js:1:1: not in the profile
+# A round comes before the modules that it requires.
+file b.js require("./a/bad"); f(
+run 2 graph index.js
+    jam: b.js:1:23: not in the profile
+"#;
 
 #[test]
 fn a_module_may_have_8388608_bytes(rt: HostRuntime) -> Result<(), Fail> {
@@ -145,18 +112,10 @@ fn a_module_may_have_8388608_bytes(rt: HostRuntime) -> Result<(), Fail> {
             "jam: b.js: 8388609 bytes, more than 8388608\n",
         ),
     ] {
-        let mut bench = files(alloc, &[("index.js", "require(\"./b\");")])?;
+        let mut bench = bench_over(alloc, "index.js", b"require(\"./b\");")?;
         let text = vec![in alloc; byte; length]?;
         add(alloc, &mut bench, "b.js", text.as_slice())?;
-        let words = words_of(alloc, "graph index.js")?;
-        let status = ran::<HostRuntime, Brand>(
-            &rt,
-            alloc,
-            &mut bench,
-            words.as_slice(),
-            Blank::new(1),
-        );
-        compare(&rt, &bench, &status, number, out, err);
+        check_run(&rt, alloc, &mut bench, "graph index.js", number, out, err)?;
     }
     Ok(())
 }
@@ -191,16 +150,16 @@ fn an_application_may_have_16384_modules(rt: HostRuntime) -> Result<(), Fail> {
     let refused = "jam: too many: 16385 modules, 332958 bytes\n";
     for (count, number, edges, err) in [(16_383, 0, 16_383, ""), (16_384, 2, 0, refused)] {
         let mut bench = many(alloc, count)?;
-        let words = words_of(alloc, "graph index.js")?;
-        let status = ran::<HostRuntime, Brand>(
+        let out = edges_of_many(alloc, edges)?;
+        check_run(
             &rt,
             alloc,
             &mut bench,
-            words.as_slice(),
-            Blank::new(1),
-        );
-        let out = edges_of_many(alloc, edges)?;
-        compare(&rt, &bench, &status, number, out.as_str(), err);
+            "graph index.js",
+            number,
+            out.as_str(),
+            err,
+        )?;
     }
     Ok(())
 }
@@ -213,14 +172,7 @@ fn a_module_that_is_too_many_is_not_read(rt: HostRuntime) -> Result<(), Fail> {
     for (failing, number) in [(49_153, 3), (49_154, 2)] {
         let mut bench = many(alloc, 16_384)?;
         bench.folder.fail_at(List::of(vec![in alloc; failing]?));
-        let words = words_of(alloc, "graph index.js")?;
-        let status = ran::<HostRuntime, Brand>(
-            &rt,
-            alloc,
-            &mut bench,
-            words.as_slice(),
-            Blank::new(1),
-        );
+        let status = status_of(&rt, alloc, &mut bench, "graph index.js")?;
         assert_eq!(&rt; status.number(), number);
     }
     Ok(())
@@ -245,14 +197,7 @@ fn rounds_may_follow_one_another_16384_times(rt: HostRuntime) -> Result<(), Fail
     let refused = "jam: too many: 16385 modules, 332958 bytes\n";
     for (count, number, edges, err) in [(16_383, 0, 16_383, ""), (16_384, 2, 0, refused)] {
         let mut bench = chain(alloc, count)?;
-        let words = words_of(alloc, "graph index.js")?;
-        let status = ran::<HostRuntime, Brand>(
-            &rt,
-            alloc,
-            &mut bench,
-            words.as_slice(),
-            Blank::new(1),
-        );
+        let status = status_of(&rt, alloc, &mut bench, "graph index.js")?;
         let lines = bench.out.bytes().iter().filter(|b| **b == b'\n').count();
         assert_eq!(&rt; status.number(), number);
         assert_eq!(&rt; lines, edges);
@@ -261,91 +206,33 @@ fn rounds_may_follow_one_another_16384_times(rt: HostRuntime) -> Result<(), Fail
     Ok(())
 }
 
-// A module whose function another one calls.
-fn crossing(alloc: Global, failing: u64, room: u64) -> Result<Bench, Fail> {
-    let mut bench = files(
-        alloc,
-        &[
-            ("index.js", "var a = require(\"./a\");\na.go();\n"),
-            ("a.js", "exports.go = function () { };\n"),
-        ],
-    )?;
-    bench.folder.fail_at(List::of(vec![in alloc; failing]?));
-    bench.out.fail_after(room);
-    Ok(bench)
-}
-
-const CROSSING: &str = "index.js:1:16 -> a.js:1:1 <module>\nindex.js:2:5 -> a.js:1:14 go\n";
-
 #[test]
-fn a_call_has_an_edge_to_another_file(rt: HostRuntime) -> Result<(), Fail> {
-    let alloc = rt.alloc();
-    for failing in 0..7 {
-        let (number, out, err) = match failing {
-            0 | 6 => (0, CROSSING, ""),
-            _ => (3, "", "jam: read failed\n"),
-        };
-        let mut bench = crossing(alloc, failing, 99)?;
-        let words = words_of(alloc, "graph index.js")?;
-        let status = ran::<HostRuntime, Brand>(
-            &rt,
-            alloc,
-            &mut bench,
-            words.as_slice(),
-            Blank::new(1),
-        );
-        compare(&rt, &bench, &status, number, out, err);
-    }
-    Ok(())
+fn a_fault_ends_the_loading(rt: HostRuntime) -> Result<(), Fail> {
+    applications_hold(&rt, rt.alloc(), FAULTS)
 }
 
-#[test]
-fn a_full_output_has_a_front_of_the_text(rt: HostRuntime) -> Result<(), Fail> {
-    let alloc = rt.alloc();
-    for room in 0..CROSSING.len() {
-        let mut bench = crossing(alloc, 0, room as u64)?;
-        let words = words_of(alloc, "graph index.js")?;
-        let status = ran::<HostRuntime, Brand>(
-            &rt,
-            alloc,
-            &mut bench,
-            words.as_slice(),
-            Blank::new(1),
-        );
-        let out = CROSSING.get(..room).ok_or("front")?;
-        compare(&rt, &bench, &status, 4, out, "jam: write failed\n");
-    }
-    Ok(())
-}
-
-#[test]
-fn a_fault_of_the_folder_ends_the_loading(rt: HostRuntime) -> Result<(), Fail> {
-    let alloc = rt.alloc();
-    let edges = "a.js:1:8 -> b.js:1:1 <module>\nb.js:1:8 -> index.js:1:1 <module>\n\
-                 index.js:1:8 -> b.js:1:1 <module>\nindex.js:1:27 -> a.js:1:1 <module>\n";
-    for failing in 1..10 {
-        let (number, out, err) = match failing {
-            9 => (0, edges, ""),
-            _ => (3, "", "jam: read failed\n"),
-        };
-        let mut bench = files(
-            alloc,
-            &[
-                ("index.js", "require(\"./b.js\"); require(\"./a.js\");"),
-                ("a.js", "require(\"./b.js\");"),
-                ("b.js", "require(\"./index.js\");"),
-            ],
-        )?;
-        bench.folder.fail_at(List::of(vec![in alloc; failing]?));
-        let words = words_of(alloc, "graph index.js")?;
-        let status = ran::<HostRuntime, Brand>(
-            &rt,
-            alloc,
-            &mut bench,
-            words.as_slice(),
-            Blank::new(1),
-        );
-        compare(&rt, &bench, &status, number, out, err);
-    }
-    Ok(())
-}
+const FAULTS: &str = r#"
+# A module whose function another one calls.
+application
+file index.js
+    var a = require("./a");
+    a.go();
+file a.js
+    exports.go = function () { };
+calls 5 0 graph index.js
+    index.js:1:16 -> a.js:1:1 <module>
+    index.js:2:5 -> a.js:1:14 go
+bytes graph index.js
+    index.js:1:16 -> a.js:1:1 <module>
+    index.js:2:5 -> a.js:1:14 go
+# Modules that require one another.
+application
+file index.js require("./b.js"); require("./a.js");
+file a.js require("./b.js");
+file b.js require("./index.js");
+calls 8 0 graph index.js
+    a.js:1:8 -> b.js:1:1 <module>
+    b.js:1:8 -> index.js:1:1 <module>
+    index.js:1:8 -> b.js:1:1 <module>
+    index.js:1:27 -> a.js:1:1 <module>
+"#;

@@ -1,17 +1,19 @@
 //! Tables of runs. What is run stands on a line of its own, and what is written on the lines behind it,
 //! which begin with four spaces: a refusal or a fault on the error output, all else on the output. `¶` and
 //! `␍` stand for the two characters of a line end, and a line that begins with `# ` is a heading.
-use crate::jam_app_tests::{Bench, HELP, compare, empty_bench, ran, words_of};
-use jam_base::ModulePath;
+use crate::bench::{add, bench_over, check_run};
 use std::alloc::{AllocError, Global};
-use std::marker::{Brand, Sync};
+use std::marker::Sync;
 use std::process::Abort;
-use std::sync::ledger::Blank;
 use std::test::Fail;
 use std::thread::Threads;
 
+const HELP: &str =
+    "Tells which functions that advisories name an application can call. Run it in the application folder.\n\nUsage: jam <COMMAND>\n\nCommands:\n  audit  Report which functions that the advisories in a file name the application can call\n  graph  Print the calls that the application of an entry file can make\n\nReport which functions that the advisories in a file name the application can call\n\nUsage: jam audit [OPTIONS] <ADVISORIES>\n\nArguments:\n  <ADVISORIES>  The file of advisories, by its path from the application folder\n\nOptions:\n      --entry <PATH>     The file that the application begins with, as `require` would find it\n      --format <FORMAT>  How the report is written: text or json\n      --skip-refused     Pass over modules outside the profile, with a note, in place of refusing them\n\nExample: jam audit --format json advisories.json\n\nPrint the calls that the application of an entry file can make\n\nUsage: jam graph [OPTIONS] <FILE>\n\nArguments:\n  <FILE>  The file that the application begins with, as `require` would find it\n\nOptions:\n      --skip-refused  Pass over modules outside the profile, with a note, in place of refusing them\n\nExample: jam graph index.js\n";
+
 // What is in a row: the text of `index.js`, over which `graph` is run; the words of a run over one file that
-// isn't in the profile; or the path of an empty file, and the words of a run over it.
+// isn't in the profile; or the path of an empty file, and the words of a run over it. `a.js`, which is empty,
+// is beside them.
 #[derive(Clone, Copy, Drop)]
 pub(crate) enum RowKind {
     Text,
@@ -62,27 +64,15 @@ fn row_holds<R: Threads + Abort + Sync>(
             (path, "", words)
         }
     };
-    let mut bench = bench_over(alloc, path, text)?;
-    let words = words_of(alloc, line)?;
-    let status = ran::<R, Brand>(rt, alloc, &mut bench, words.as_slice(), Blank::new(1));
+    let mut bench = bench_over(alloc, path, text.as_bytes())?;
+    add(alloc, &mut bench, "a.js", b"")?;
     if want == "help\n" {
-        compare(rt, &bench, &status, 6, "", HELP);
+        check_run(rt, alloc, &mut bench, line, 6, "", HELP)
     } else if want.starts_with("jam: ") {
-        compare(rt, &bench, &status, 2, "", want);
+        check_run(rt, alloc, &mut bench, line, 2, "", want)
     } else {
-        compare(rt, &bench, &status, 0, want, "");
+        check_run(rt, alloc, &mut bench, line, 0, want, "")
     }
-    Ok(())
-}
-
-// One file, and `a.js`, which is empty.
-fn bench_over(alloc: Global, path: &str, text: &str) -> Result<Bench, Fail> {
-    let mut bench = empty_bench(alloc);
-    let path = ModulePath::read(alloc, path)?.ok_or("path")?;
-    bench.folder.add(path, text.as_bytes().to_vec(alloc)?)?;
-    let other = ModulePath::read(alloc, "a.js")?.ok_or("path")?;
-    bench.folder.add(other, b"".to_vec(alloc)?)?;
-    Ok(bench)
 }
 
 fn push_line(want: &mut String, more: &str) -> Result<(), AllocError> {
@@ -90,7 +80,8 @@ fn push_line(want: &mut String, more: &str) -> Result<(), AllocError> {
     want.push('\n')
 }
 
-fn with_line_ends(alloc: Global, line: &str) -> Result<String, AllocError> {
+// The text of a line, where two marks stand for line ends.
+pub(crate) fn with_line_ends(alloc: Global, line: &str) -> Result<String, AllocError> {
     let mut text = String::new(alloc);
     for c in line.chars() {
         text.push(line_end(c))?;

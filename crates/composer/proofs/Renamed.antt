@@ -34,7 +34,7 @@ module _ {V W T S : Type 0} (f : V → W) (e : T → S) where
   receivers-map : (g : Callable V T) → receivers (map_callable f e g) ≡ map f (receivers g)
   receivers-map g = sym (map-append f g.params (g.rest ∷ []))
 
-  calls-map : (s : CallSite V) (g : Callable V T) → call_arrows (map_site f s) (map_callable f e g) ≡ map (map_arrow f) (call_arrows s g)
+  pub calls-map : (s : CallSite V) (g : Callable V T) → call_arrows (map_site f s) (map_callable f e g) ≡ map (map_arrow f) (call_arrows s g)
   calls-map s g =
       ap (λ xs. xs ++ to_each (f s.more) (receivers (map_callable f e g)) ++ record { from = f g.ret; to = f s.res } ∷ []) (params-map f s.args g.params g.rest)
       ∙ ap (λ vs. map (map_arrow f) (into_params s.args g.params g.rest) ++ to_each (f s.more) vs ++ record { from = f g.ret; to = f s.res } ∷ []) (receivers-map g)
@@ -42,7 +42,7 @@ module _ {V W T S : Type 0} (f : V → W) (e : T → S) where
       ∙ sym (map-append (map_arrow f) (into_params s.args g.params g.rest ++ to_each s.more (receivers g)) (record { from = g.ret; to = s.res } ∷ [])
       ∙ ap (λ xs. xs ++ record { from = f g.ret; to = f s.res } ∷ []) (map-append (map_arrow f) (into_params s.args g.params g.rest) (to_each s.more (receivers g))))
 
-  callbacks-map : (elem : V) (s : CallSite V) (g : Callable V T) → callback_arrows (f elem) (map_site f s) (map_callable f e g) ≡ map (map_arrow f) (callback_arrows elem s g)
+  pub callbacks-map : (elem : V) (s : CallSite V) (g : Callable V T) → callback_arrows (f elem) (map_site f s) (map_callable f e g) ≡ map (map_arrow f) (callback_arrows elem s g)
   callbacks-map elem s g =
       ap (λ vs. to_each (f s.recv) vs ++ to_each (f elem) vs ++ record { from = f g.ret; to = f s.res } ∷ []) (receivers-map g)
       ∙ ap (λ xs. xs ++ to_each (f elem) (map f (receivers g)) ++ record { from = f g.ret; to = f s.res } ∷ []) (each-map f s.recv (receivers g))

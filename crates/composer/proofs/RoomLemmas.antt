@@ -1,9 +1,7 @@
 -- How many pairs of a value and a vertex are not yet in the rows.
-use Rattle.std.proofs.Common.{◌≡◌, ℕ, zero, suc, ◌+◌, ◌<◌, ◌≤◌, inl, inr, Bool, true, false, cond, List, [], ◌∷◌, refl, subst, arith}
-use Rattle.std.specs.Prelude.{IsTrue, nat_eq}
-use Rattle.std.proofs.lemmas.Bool.{cases_eq, eqb-true, or_cases}
-use Rattle.composer.specs.Rows.{gaps, room, is_in, Holds}
-use Rattle.composer.proofs.RowLemmas.{apart}
+use Rattle.std.proofs.Common.{◌≡◌, ℕ, zero, suc, ◌+◌, ◌<◌, ◌≤◌, inl, inr, Bool, true, false, cond, refl, subst, arith}
+use Rattle.std.proofs.lemmas.Bool.{cases_eq}
+use Rattle.composer.specs.Rows.{gaps, room}
 
 cond_le : (a b : Bool) → (a ≡ true → b ≡ true) → cond b 0 1 ≤ cond a 0 1
 cond_le true b h = rw (h refl) (omega arith)
@@ -33,24 +31,3 @@ room_lt (suc n) m p q more t v lt in_range absent present = elim (cases_eq v n) 
       omega (arith, gaps_lt m (λ x. p x n) (λ x. q x n) (λ x. more x n) t lt a b, room_le n m p q more))
   | inr ne ↦ (let lt' : v < n = omega arith in omega (arith, gaps_le m (λ x. p x n) (λ x. q x n) (λ x. more x n), room_lt n m p q more t v lt lt' absent present))
 ]
-
--- a number above each value of the rows
-abbrev value_sum : List ℕ → ℕ
-value_sum [] = 0
-value_sum (x ∷ xs) = x + 1 + value_sum xs
-
-abbrev pub ceiling : List (List ℕ) → ℕ
-ceiling [] = 0
-ceiling (r ∷ rows) = value_sum r + ceiling rows
-
-below_sum : (t : ℕ) (r : List ℕ) → IsTrue (is_in t r) → t < value_sum r
-below_sum t [] h = absurd (apart h refl)
-below_sum t (x ∷ xs) h = elim (or_cases (nat_eq x t) (is_in t xs) h) [
-  | inl e ↦ (let same : x ≡ t = eqb-true x t e in omega (arith, same))
-  | inr g ↦ omega (arith, below_sum t xs g)
-]
-
-pub below_ceiling : (rows : List (List ℕ)) (t v : ℕ) → Holds rows t v → t < ceiling rows
-below_ceiling [] t v h = absurd (apart h refl)
-below_ceiling (r ∷ rows) t zero h = omega (arith, below_sum t r h)
-below_ceiling (r ∷ rows) t (suc v) h = omega (arith, below_ceiling rows t v h)

@@ -1,11 +1,10 @@
--- What rows hold after an addition.
+-- What rows hold.
 use Rattle.std.proofs.Common.{◌≡◌, ◌≢◌, ℕ, zero, suc, ◌<◌, ◌⊎◌, inl, inr, Bool, true, false, ◌||◌, ◌&&◌, List, [], ◌∷◌, length, set, replicate, refl, sym, ◌∙◌, subst, arith, get_or-set_same, get_or-set_other}
 use Rattle.std.specs.Prelude.{Contains, IsTrue, nat_eq}
-use Rattle.std.proofs.lemmas.Bool.Decides.{eqb_tells}
 use Rattle.std.proofs.lemmas.Bool.{eqb-true, eq-eqb, or_cases}
 use Rattle.std.proofs.Math.Bool.{or-true}
 use Rattle.composer.proofs.Members.{none, here, there, cons_cases}
-use Rattle.composer.specs.Rows.{row, is_in, has, Holds, Adds}
+use Rattle.composer.specs.Rows.{row, is_in, Holds}
 
 pub apart : {b : Bool} → b ≡ true → b ≡ false → ⊥
 apart {b} h g = let e : true ≡ false = sym h ∙ g in cc
@@ -31,24 +30,6 @@ row-set_same s v r h = get_or-set_same s v r [] h
 
 pub row-set_other : (s : List (List ℕ)) (v w : ℕ) (r : List ℕ) → w ≢ v → row (set s v r) w ≡ row s w
 row-set_other s v w r h = get_or-set_other s v w r [] h
-
-module _ (t v : ℕ) (old new : List (List ℕ)) (a : Adds t v old new) where
-  pub adds_kept : (x w : ℕ) → Holds old x w → Holds new x w
-  adds_kept x w h = rw (a.holds x w, h) refl
-
-  pub adds_here : Holds new t v
-  adds_here = rw (a.holds t v, eq-eqb v v refl, eq-eqb t t refl) (or-true _)
-
-  pub adds_cases : (x w : ℕ) → Holds new x w → Holds old x w ⊎ ((t ≡ x) × (w ≡ v))
-  adds_cases x w h =
-      let g : (has old x w || (nat_eq w v && nat_eq t x)) ≡ true = sym (a.holds x w) ∙ h in
-      elim (or_cases (has old x w) (nat_eq w v && nat_eq t x) g) [
-        | inl y ↦ inl y
-        | inr y ↦ elim (eqb_tells w v) [
-          | inl e ↦ elim (eqb_tells t x) [ inl f ↦ inr (f.1, e.1) | inr f ↦ absurd (let k = rw (e.0, f.0) at y in cc) ]
-          | inr e ↦ absurd (let k = rw e.0 at y in cc)
-        ]
-      ]
 
 pub row_replicate : (n v : ℕ) → row (replicate n []) v ≡ []
 row_replicate zero v = refl

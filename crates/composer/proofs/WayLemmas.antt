@@ -9,12 +9,11 @@ use Rattle.composer.specs.declared.system.Callable.{Callable}
 use Rattle.composer.specs.declared.system.CallSite.{CallSite}
 use Rattle.composer.specs.declared.system.System.{System}
 use Rattle.composer.specs.Numbered.{IsSiteIn, IsCallableIn, IsArrowIn, IsSystemIn, HasValues}
-use Rattle.composer.specs.Rows.{row, has, Holds}
 use Rattle.composer.specs.Solution.{IsBase, Reason, InSolution, Has}
 use Rattle.composer.specs.Solution.IsBase.{literal, native as native_base}
 use Rattle.composer.specs.Solution.Reason.{flow, call, native, callback}
 use Rattle.composer.specs.Steps.{into_params, to_each, receivers, inputs, call_arrows, native_arrows, callback_arrows}
-use Rattle.composer.specs.Ways.{all_ways, called_ways, callback_ways, input_ways, site_ways}
+use Rattle.composer.specs.Ways.{Stands, all_ways, called_ways, callback_ways, input_ways, site_ways, stands}
 use Rattle.composer.proofs.LeastSolution.{least}
 use Rattle.composer.proofs.RowLemmas.{member_from_in, in_from_member}
 
@@ -73,7 +72,7 @@ module _ (a : System ℕ ℕ) (values : HasValues a) where
   pub values_upto : (f : Callable ℕ ℕ) → Contains a.functions f → f.value ≤ a.native
   values_upto f c = omega (arith, (value_is_place f c).1, values.native)
 
-  native_has_none : slice_get a.functions a.native ≡ None
+  pub native_has_none : slice_get a.functions a.native ≡ None
   native_has_none = slice_get_past a.functions a.native (omega (arith, values.native))
 
   function_at : (t : ℕ) (f : Callable ℕ ℕ) → slice_get a.functions t ≡ Some f → Contains a.functions f × (f.value ≡ t)
@@ -87,49 +86,49 @@ module _ (a : System ℕ ℕ) (values : HasValues a) where
       some_one : (x y : Callable ℕ ℕ) → Some x ≡ Some y → x ≡ y
       some_one x y h = cc h
 
-  none_is_native : (t : ℕ) → t ≤ a.native → slice_get a.functions t ≡ None → t ≡ a.native
+  pub none_is_native : (t : ℕ) → t ≤ a.native → slice_get a.functions t ≡ None → t ≡ a.native
   none_is_native t le e = elim (slice_get_cases a.functions t).1 [
     | inl (x, lt, g, at) ↦ absurd (let k : None ≡ Some x = sym e ∙ g in cc)
     | inr (past, g) ↦ omega (arith, past, le, values.native)
   ]
 
-  module _ (rows : List (List ℕ)) (bound : (t v : ℕ) → Holds rows t v → t ≤ a.native) where
-    held : (v t : ℕ) → Contains (row rows v) t → Holds rows t v
-    held v t c = in_from_member t (row rows v) c
+  module _ (at : ℕ → List ℕ) (bound : (t v : ℕ) → Stands at t v → t ≤ a.native) where
+    held : (v t : ℕ) → Contains (at v) t → Stands at t v
+    held v t c = in_from_member t (at v) c
 
     -- a way has a reason
-    pub reason_from_ways : (arrow : Arrow ℕ) → Contains (all_ways a rows) arrow → Reason a (Has (has rows)) arrow
-    reason_from_ways arrow h = elim (Contains-append_cases a.flows (flat_map (site_ways a rows) a.sites) arrow h) [
+    pub reason_from_ways : (arrow : Arrow ℕ) → Contains (all_ways a at) arrow → Reason a (Has (stands at)) arrow
+    reason_from_ways arrow h = elim (Contains-append_cases a.flows (flat_map (site_ways a at) a.sites) arrow h) [
       | inl g ↦ flow g
-      | inr g ↦ (let p = from_flat_map (site_ways a rows) a.sites arrow g in
-          let q = from_flat_map (λ t. called_ways a rows p.0 (slice_get a.functions t)) (row rows p.0.callee) arrow p.2 in
+      | inr g ↦ (let p = from_flat_map (site_ways a at) a.sites arrow g in
+          let q = from_flat_map (λ t. called_ways a at p.0 (slice_get a.functions t)) (at p.0.callee) arrow p.2 in
           called p.0 p.1 q.0 (held p.0.callee q.0 q.1) (slice_get a.functions q.0) refl q.2)
     ]
       where
-        handed : (s : CallSite ℕ) → Contains a.sites s → Holds rows a.native s.callee → (w : ℕ) → Contains (inputs s) w → (t : ℕ) → Holds rows t w → (o : Option (Callable ℕ ℕ)) → slice_get a.functions t ≡ o → Contains (callback_ways a.elem s o) arrow → Reason a (Has (has rows)) arrow
+        handed : (s : CallSite ℕ) → Contains a.sites s → Stands at a.native s.callee → (w : ℕ) → Contains (inputs s) w → (t : ℕ) → Stands at t w → (o : Option (Callable ℕ ℕ)) → slice_get a.functions t ≡ o → Contains (callback_ways a.elem s o) arrow → Reason a (Has (stands at)) arrow
         handed s c x w cw t y None e i = absurd (none arrow i)
-        handed s c x w cw t y (Some g) e i = let f = function_at t g e in callback s g w c f.0 cw x (subst (λ k. Holds rows k w) (sym f.1) y) i
+        handed s c x w cw t y (Some g) e i = let f = function_at t g e in callback s g w c f.0 cw x (subst (λ k. Stands at k w) (sym f.1) y) i
 
-        called : (s : CallSite ℕ) → Contains a.sites s → (t : ℕ) → Holds rows t s.callee → (o : Option (Callable ℕ ℕ)) → slice_get a.functions t ≡ o → Contains (called_ways a rows s o) arrow → Reason a (Has (has rows)) arrow
-        called s c t x (Some f) e i = let g = function_at t f e in call s f c g.0 (subst (λ k. Holds rows k s.callee) (sym g.1) x) i
+        called : (s : CallSite ℕ) → Contains a.sites s → (t : ℕ) → Stands at t s.callee → (o : Option (Callable ℕ ℕ)) → slice_get a.functions t ≡ o → Contains (called_ways a at s o) arrow → Reason a (Has (stands at)) arrow
+        called s c t x (Some f) e i = let g = function_at t f e in call s f c g.0 (subst (λ k. Stands at k s.callee) (sym g.1) x) i
         called s c t x None e i =
-            let at_native : Holds rows a.native s.callee = subst (λ k. Holds rows k s.callee) (none_is_native t (bound t s.callee x) e) x in
-            elim (Contains-append_cases (native_arrows s) (flat_map (input_ways a rows s) (inputs s)) arrow i) [
+            let at_native : Stands at a.native s.callee = subst (λ k. Stands at k s.callee) (none_is_native t (bound t s.callee x) e) x in
+            elim (Contains-append_cases (native_arrows s) (flat_map (input_ways a at s) (inputs s)) arrow i) [
               | inl j ↦ native s c at_native j
-              | inr j ↦ (let p = from_flat_map (input_ways a rows s) (inputs s) arrow j in
-                  let q = from_flat_map (λ t. callback_ways a.elem s (slice_get a.functions t)) (row rows p.0) arrow p.2 in
+              | inr j ↦ (let p = from_flat_map (input_ways a at s) (inputs s) arrow j in
+                  let q = from_flat_map (λ t. callback_ways a.elem s (slice_get a.functions t)) (at p.0) arrow p.2 in
                   handed s c at_native p.0 p.1 q.0 (held p.0 q.0 q.1) (slice_get a.functions q.0) refl q.2)
             ]
 
-    at_site : (s : CallSite ℕ) (t : ℕ) (o : Option (Callable ℕ ℕ)) (arrow : Arrow ℕ) → Contains a.sites s → Holds rows t s.callee → slice_get a.functions t ≡ o → Contains (called_ways a rows s o) arrow → Contains (all_ways a rows) arrow
-    at_site s t o arrow c x e i = Contains-append_right a.flows _ arrow (into_flat_map (site_ways a rows) a.sites s arrow c
-        (into_flat_map (λ t. called_ways a rows s (slice_get a.functions t)) (row rows s.callee) t arrow (member_from_in t (row rows s.callee) x) (subst (λ p. Contains (called_ways a rows s p) arrow) (sym e) i)))
+    at_site : (s : CallSite ℕ) (t : ℕ) (o : Option (Callable ℕ ℕ)) (arrow : Arrow ℕ) → Contains a.sites s → Stands at t s.callee → slice_get a.functions t ≡ o → Contains (called_ways a at s o) arrow → Contains (all_ways a at) arrow
+    at_site s t o arrow c x e i = Contains-append_right a.flows _ arrow (into_flat_map (site_ways a at) a.sites s arrow c
+        (into_flat_map (λ t. called_ways a at s (slice_get a.functions t)) (at s.callee) t arrow (member_from_in t (at s.callee) x) (subst (λ p. Contains (called_ways a at s p) arrow) (sym e) i)))
 
     -- and each reason makes a way
-    pub ways_from_reason : (arrow : Arrow ℕ) → Reason a (Has (has rows)) arrow → Contains (all_ways a rows) arrow
+    pub ways_from_reason : (arrow : Arrow ℕ) → Reason a (Has (stands at)) arrow → Contains (all_ways a at) arrow
     ways_from_reason arrow (flow h) = Contains-append_left a.flows _ arrow h
     ways_from_reason arrow (call s f hs hf x h) = at_site s f.value (Some f) arrow hs x (value_is_place f hf).0 h
     ways_from_reason arrow (native s hs x h) = at_site s a.native None arrow hs x native_has_none (Contains-append_left (native_arrows s) _ arrow h)
-    ways_from_reason arrow (callback s g w hs hg hw x y h) = at_site s a.native None arrow hs x native_has_none (Contains-append_right (native_arrows s) (flat_map (input_ways a rows s) (inputs s)) arrow
-        (into_flat_map (input_ways a rows s) (inputs s) w arrow hw (into_flat_map (λ t. callback_ways a.elem s (slice_get a.functions t)) (row rows w) g.value arrow (member_from_in g.value (row rows w) y)
+    ways_from_reason arrow (callback s g w hs hg hw x y h) = at_site s a.native None arrow hs x native_has_none (Contains-append_right (native_arrows s) (flat_map (input_ways a at s) (inputs s)) arrow
+        (into_flat_map (input_ways a at s) (inputs s) w arrow hw (into_flat_map (λ t. callback_ways a.elem s (slice_get a.functions t)) (at w) g.value arrow (member_from_in g.value (at w) y)
         (subst (λ p. Contains (callback_ways a.elem s p) arrow) (sym (value_is_place g hg).0) h))))

@@ -11,4 +11,6 @@ pub mod Sizes
 pub mod Solution
 pub mod Solved
 pub mod Steps
+pub mod Uses
 pub mod Ways
+pub mod Work

@@ -1,21 +1,22 @@
 //! The call edges of an application whose system is solved.
-ghost use Rattle.std.specs.Prelude.{◌≡◌, ◌++◌, All, Contains, OnOk, flat_map};
+ghost use Rattle.std.specs.Prelude.{◌≡◌, ◌++◌, All, Contains, IfOk, OnOk, flat_map};
 ghost use Rattle.std.specs.List.Sorted.{IsStrictlySortedBy};
 ghost use Rattle.flow_rules.specs.Flows.{require_order};
 ghost use Rattle.flow_rules.specs.declared.module.Require.{Require as AnyRequire};
 ghost use Rattle.composer.specs.CallEdges as edges;
 ghost use Rattle.composer.specs.Numbers.{value_at};
+ghost use Rattle.composer.specs.Rows.{row};
 ghost use Rattle.composer.specs.Parts.{IsNamed, lists_of};
 ghost use Rattle.composer.specs.Solved.{AddsEdges, IsAmong, IsLinkEdge};
 ghost use Rattle.composer.specs.Steps.{inputs};
 
 use crate::application::{Link, ModuleVertex, Part, Value};
-use crate::sets::Sets;
 use crate::system::{CallSite, System};
 use flow_rules::Require;
 use jam_base::{Edge, FunctionRef, OutOfMemory};
 use js_scopes::SiteInfo;
-use std::alloc::AllocError;
+use set_pool::SetPool;
+use std::alloc::Global;
 
 /// Adds the edges of the requires that have a link.
 pub(crate) fn push_links(
@@ -73,17 +74,20 @@ fn holder_at(requires_: &[Require], offset: u32) -> u32
 
 /// Adds the edges of a site of module m, whose vertices have these numbers.
 pub(crate) fn push_site(
+    alloc: Global,
     out: &mut Vec<Edge>,
     system: &System<ModuleVertex, Value>,
-    sets: &Sets,
+    sets: &SetPool,
     m: u32,
     site: &SiteInfo,
     numbers: &CallSite<u32>,
 ) -> Result<(), OutOfMemory>
-    ensures { OnOk result (out.new.items ≡ out.old.items ++ edges.site_edges system.now sets.now m site.now numbers.now) }
+    ensures { OnOk result (out.new.items ≡ out.old.items ++ edges.site_edges system.now sets.now.sets m site.now numbers.now) }
 {
-    for value in sets.of(numbers.callee) {
+    let values = values_at(alloc, sets, numbers.callee)?;
+    for value in values.as_slice() {
         push_called(
+            alloc,
             out,
             system,
             sets,
@@ -97,49 +101,53 @@ pub(crate) fn push_site(
 }
 
 fn push_called(
+    alloc: Global,
     out: &mut Vec<Edge>,
     system: &System<ModuleVertex, Value>,
-    sets: &Sets,
+    sets: &SetPool,
     m: u32,
     site: &SiteInfo,
     numbers: &CallSite<u32>,
     value: Value,
 ) -> Result<(), OutOfMemory>
-    ensures { OnOk result (out.new.items ≡ out.old.items ++ edges.called_edges system.now sets.now m site.now numbers.now value) }
+    ensures { OnOk result (out.new.items ≡ out.old.items ++ edges.called_edges system.now sets.now.sets m site.now numbers.now value) }
 {
     match value {
         Value::Fun(_) => push_edge(out, m, site, value),
-        Value::Native => push_inputs(out, system, sets, m, site, numbers),
+        Value::Native => push_inputs(alloc, out, system, sets, m, site, numbers),
     }
 }
 
 fn push_inputs(
+    alloc: Global,
     out: &mut Vec<Edge>,
     system: &System<ModuleVertex, Value>,
-    sets: &Sets,
+    sets: &SetPool,
     m: u32,
     site: &SiteInfo,
     numbers: &CallSite<u32>,
 ) -> Result<(), OutOfMemory>
-    ensures { OnOk result (out.new.items ≡ out.old.items ++ flat_map (edges.input_edges system.now sets.now m site.now) (inputs numbers.now)) }
+    ensures { OnOk result (out.new.items ≡ out.old.items ++ flat_map (edges.input_edges system.now sets.now.sets m site.now) (inputs numbers.now)) }
 {
     for input in numbers.args.as_slice() {
-        push_input(out, system, sets, m, site, *input)?;
+        push_input(alloc, out, system, sets, m, site, *input)?;
     }
-    push_input(out, system, sets, m, site, numbers.more)
+    push_input(alloc, out, system, sets, m, site, numbers.more)
 }
 
 fn push_input(
+    alloc: Global,
     out: &mut Vec<Edge>,
     system: &System<ModuleVertex, Value>,
-    sets: &Sets,
+    sets: &SetPool,
     m: u32,
     site: &SiteInfo,
     input: u32,
 ) -> Result<(), OutOfMemory>
-    ensures { OnOk result (out.new.items ≡ out.old.items ++ edges.input_edges system.now sets.now m site.now input) }
+    ensures { OnOk result (out.new.items ≡ out.old.items ++ edges.input_edges system.now sets.now.sets m site.now input) }
 {
-    for value in sets.of(input) {
+    let values = values_at(alloc, sets, input)?;
+    for value in values.as_slice() {
         push_edge(out, m, site, value_at(system, *value))?;
     }
     Ok(())
@@ -169,4 +177,11 @@ fn value_at(system: &System<ModuleVertex, Value>, number: u32) -> Value
         Some(callable) => callable.value,
         None => Value::Native,
     }
+}
+
+// The values that stand at a vertex.
+fn values_at(alloc: Global, sets: &SetPool, vertex: u32) -> Result<Vec<u32>, OutOfMemory>
+    ensures { IfOk result (λ values. values.items ≡ row sets.now.sets vertex) }
+{
+    sets.values(alloc, vertex, 0, sets.len(vertex))
 }

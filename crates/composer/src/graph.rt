@@ -5,9 +5,9 @@ ghost use Rattle.composer.specs.Numbers.{values_of};
 
 use crate::application::{ModuleVertex, Value};
 use crate::numbers::Vertices;
-use crate::sets::Sets;
 use crate::system::Callable;
 use jam_base::{Edge, List};
+use set_pool::SetPool;
 use std::marker::Model;
 
 /// The call graph of an application. Contracts see its edges, how many functions there are, and which
@@ -17,7 +17,7 @@ pub struct Graph {
     edges: List<Edge>,
     functions: List<Callable<ModuleVertex, Value>>,
     vertices: Vertices,
-    sets: Sets,
+    sets: SetPool,
 }
 
 impl Model for Graph {
@@ -27,7 +27,7 @@ impl Model for Graph {
 
     ghost Value = { CallGraph };
 
-    ghost view = { λ g. record { edges = g.edges; functions = length g.functions; values = values_of g.functions g.vertices g.sets } };
+    ghost view = { λ g. record { edges = g.edges; functions = length g.functions; values = values_of g.functions g.vertices g.sets.sets } };
 
     ghost invariant = { λ g. length g.functions ≤ 4294967295 };
 }
@@ -38,10 +38,10 @@ impl Graph {
         edges: Vec<Edge>,
         functions: List<Callable<ModuleVertex, Value>>,
         vertices: Vertices,
-        sets: Sets,
+        sets: SetPool,
     ) -> Graph
         requires { length functions ≤ 4294967295 }
-        ensures { result ≡ record { edges = edges.items; functions = length functions; values = values_of functions vertices sets } }
+        ensures { result ≡ record { edges = edges.items; functions = length functions; values = values_of functions vertices sets.sets } }
     {
         Graph {
             edges: List::of(edges),

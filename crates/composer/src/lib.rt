@@ -2,23 +2,25 @@
 //! that follow.
 //!
 //! Read `call_graph` first: it builds the system of all parts (`build`), numbers its vertices (`numbers`),
-//! solves it by sweeps (`sweep`, over `ways` and `sets`) and reads the edges off (`edges`). Of the specs
-//! `Parts`, `Sizes`, `Application`, `Natives`, `Steps`, `Solution`, `Edges` and `Graphs` are promised, the
-//! others serve proofs.
+//! solves it by a worklist (`worklist`, over `carry`, `noted`, `places` and `targets`) and reads the edges off
+//! (`edges`). Of the specs `Parts`, `Sizes`, `Application`, `Natives`, `Steps`, `Solution`, `Uses`, `Edges` and
+//! `Graphs` are promised, the others serve proofs.
 #![tactic(auto)]
 
 mod application;
 mod build;
 mod call_graph;
+mod carry;
 mod edges;
 mod graph;
 mod law;
+mod noted;
 mod numbers;
-mod sets;
+mod places;
 mod size;
-mod sweep;
 mod system;
-mod ways;
+mod targets;
+mod worklist;
 
 pub use application::{Link, ModuleVertex, Part, Value};
 pub use call_graph::compose;

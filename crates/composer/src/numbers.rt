@@ -170,6 +170,7 @@ pub(crate) fn numbered(
     ensures names { IfOk result (λ made. map_system (vertex_at vertices.now) (value_at system.now) made ≡ system.now) }
     ensures below { IfOk result (IsSystemIn (Below (length vertices.now))) }
     ensures values { IfOk result HasValues }
+    ensures few { IfOk result (λ made. made.native < 4294967295) }
 {
     let functions = numbered_functions(alloc, vertices, system)?;
     let sites = numbered_sites(alloc, vertices, system.sites.as_slice())?;
@@ -194,10 +195,10 @@ fn numbered_functions(
     ensures names { IfOk result (λ made. map (map_callable (vertex_at vertices.now) (value_at system.now)) made.items ≡ system.now.functions) }
     ensures below { IfOk result (λ made. All (IsCallableIn (Below (length vertices.now))) made.items) }
     ensures values { IfOk result (λ made. (k : ℕ) (f : AnyCallable ℕ ℕ) → k < length made.items → (slice_index_or made.items k f).value ≡ k) }
-    ensures few { IfOk result (λ made. length made.items ≤ 4294967295) }
+    ensures few { IfOk result (λ made. length made.items < 4294967295) }
 {
     let functions = system.functions.as_slice();
-    if functions.len() > MOST {
+    if functions.len() >= MOST {
         return Err(OutOfMemory);
     }
     let mut out = Vec::new(alloc);

@@ -12,6 +12,8 @@ mod flow_fold_tests;
 #[cfg(test)]
 mod reach_path_tests;
 #[cfg(test)]
+mod reach_rows;
+#[cfg(test)]
 mod report_tests;
 #[cfg(test)]
 mod report_text_tests;

@@ -5,195 +5,113 @@ ghost use Rattle.jam_base.specs.declared.edge.Edge.{Edge as GhostEdge};
 ghost use Rattle.std.specs.declared.cmp.Ordering.TheVariants.{Less};
 ghost use Rattle.reach_path.specs.Levels.{IsBetween, IsFunction};
 
+use crate::reach_rows::graphs_hold;
 use jam_base::{Edge, FunctionRef};
 use reach_path::{Reach, reach};
 use std::alloc::Global;
 use std::cmp::Ordering;
-use std::process::Abort;
 use std::test::Fail;
 
 #[test]
-fn the_entry_has_the_empty_path(rt: HostRuntime) -> Result<(), Fail> {
-    let alloc = rt.alloc();
-    leads(&rt, alloc, &[2], &[], 0, at(0, 0), &[])?;
-    leads_nowhere(&rt, alloc, &[2], &[], 0, at(0, 1))?;
-    leads_nowhere(&rt, alloc, &[2], &[], 0, at(0, 2))?;
-    leads_nowhere(&rt, alloc, &[2], &[], 0, at(1, 0))?;
-    counts(&rt, alloc, &[2], &[], 0, 1)
+fn a_function_without_a_walk_is_not_reachable(rt: HostRuntime) -> Result<(), Fail> {
+    graphs_hold(&rt, rt.alloc(), WALKS)
 }
 
-#[test]
-fn a_function_without_a_walk_is_not_reachable(rt: HostRuntime) -> Result<(), Fail> {
-    let alloc = rt.alloc();
-    let functions = [1, 2, 1];
-    let edges = [
-        call(0, 0, 1, 2, 0),
-        call(1, 0, 3, 1, 1),
-        call(1, 1, 9, 2, 0),
-    ];
-    leads_nowhere(&rt, alloc, &functions, &edges, 1, at(0, 0))?;
-    leads(
-        &rt,
-        alloc,
-        &functions,
-        &edges,
-        1,
-        at(2, 0),
-        &[call(1, 0, 3, 1, 1), call(1, 1, 9, 2, 0)],
-    )?;
-    counts(&rt, alloc, &functions, &edges, 1, 3)?;
-    leads(
-        &rt,
-        alloc,
-        &functions,
-        &edges,
-        0,
-        at(2, 0),
-        &[call(0, 0, 1, 2, 0)],
-    )?;
-    leads_nowhere(&rt, alloc, &functions, &edges, 0, at(1, 1))?;
-    counts(&rt, alloc, &functions, &edges, 0, 2)
-}
+const WALKS: &str = r#"
+# The entry has the empty path.
+graph 2
+path 0 0:0
+path 0 0:1
+    none
+path 0 0:2
+    none
+path 0 1:0
+    none
+count 0
+    1
+graph 1 2 1
+    0:0 1 2:0
+    1:0 3 1:1
+    1:1 9 2:0
+path 1 0:0
+    none
+path 1 2:0
+    1:0 3 1:1
+    1:1 9 2:0
+count 1
+    3
+path 0 2:0
+    0:0 1 2:0
+path 0 1:1
+    none
+count 0
+    2
+# A cycle ends where it comes back.
+graph 3
+    0:0 1 0:1
+    0:1 2 0:2
+    0:2 3 0:0
+    0:2 3 0:1
+    0:2 4 0:2
+path 0 0:0
+path 0 0:1
+    0:0 1 0:1
+path 0 0:2
+    0:0 1 0:1
+    0:1 2 0:2
+count 0
+    3
+# Over modules: `index.js` requires a package and calls `go`, which calls `slow`.
+graph 1 3
+    0:0 15 1:0
+    0:0 26 1:2
+    1:2 70 1:1
+path 0 1:1
+    0:0 26 1:2
+    1:2 70 1:1
+path 0 1:0
+    0:0 15 1:0
+count 0
+    4
+"#;
 
 #[test]
 fn of_two_shortest_walks_the_least_last_edge_decides(rt: HostRuntime) -> Result<(), Fail> {
-    let alloc = rt.alloc();
-    let edges = [
-        call(0, 0, 5, 0, 2),
-        call(0, 0, 10, 0, 1),
-        call(0, 1, 20, 0, 3),
-        call(0, 2, 30, 0, 3),
-    ];
-    leads(
-        &rt,
-        alloc,
-        &[4],
-        &edges,
-        0,
-        at(0, 3),
-        &[call(0, 0, 10, 0, 1), call(0, 1, 20, 0, 3)],
-    )
+    graphs_hold(&rt, rt.alloc(), SHORTEST)
 }
 
-#[test]
-fn a_longer_walk_over_lesser_edges_is_no_path(rt: HostRuntime) -> Result<(), Fail> {
-    let alloc = rt.alloc();
-    let edges = [
-        call(0, 0, 1, 0, 1),
-        call(0, 1, 2, 0, 2),
-        call(0, 2, 3, 0, 3),
-        call(0, 0, 9, 0, 2),
-    ];
-    leads(
-        &rt,
-        alloc,
-        &[4],
-        &edges,
-        0,
-        at(0, 3),
-        &[call(0, 0, 9, 0, 2), call(0, 2, 3, 0, 3)],
-    )
-}
-
-#[test]
-fn a_cycle_ends_where_it_comes_back(rt: HostRuntime) -> Result<(), Fail> {
-    let alloc = rt.alloc();
-    let edges = [
-        call(0, 0, 1, 0, 1),
-        call(0, 1, 2, 0, 2),
-        call(0, 2, 3, 0, 0),
-        call(0, 2, 3, 0, 1),
-        call(0, 2, 4, 0, 2),
-    ];
-    leads(&rt, alloc, &[3], &edges, 0, at(0, 0), &[])?;
-    leads(
-        &rt,
-        alloc,
-        &[3],
-        &edges,
-        0,
-        at(0, 1),
-        &[call(0, 0, 1, 0, 1)],
-    )?;
-    leads(
-        &rt,
-        alloc,
-        &[3],
-        &edges,
-        0,
-        at(0, 2),
-        &[call(0, 0, 1, 0, 1), call(0, 1, 2, 0, 2)],
-    )?;
-    counts(&rt, alloc, &[3], &edges, 0, 3)
-}
-
-#[test]
-fn sites_at_one_offset_are_told_apart(rt: HostRuntime) -> Result<(), Fail> {
-    let alloc = rt.alloc();
-    let edges = [
-        call(0, 0, 5, 0, 1),
-        call(0, 0, 5, 0, 2),
-        call(0, 1, 7, 0, 3),
-        call(0, 2, 7, 0, 3),
-    ];
-    leads(
-        &rt,
-        alloc,
-        &[4],
-        &edges,
-        0,
-        at(0, 1),
-        &[call(0, 0, 5, 0, 1)],
-    )?;
-    leads(
-        &rt,
-        alloc,
-        &[4],
-        &edges,
-        0,
-        at(0, 2),
-        &[call(0, 0, 5, 0, 2)],
-    )?;
-    leads(
-        &rt,
-        alloc,
-        &[4],
-        &edges,
-        0,
-        at(0, 3),
-        &[call(0, 0, 5, 0, 1), call(0, 1, 7, 0, 3)],
-    )
-}
-
-// Calls of a function of a package: `index.js` requires it and calls `go`, which calls `slow`.
-#[test]
-fn a_path_goes_over_modules(rt: HostRuntime) -> Result<(), Fail> {
-    let alloc = rt.alloc();
-    let edges = [
-        call(0, 0, 15, 1, 0),
-        call(0, 0, 26, 1, 2),
-        call(1, 2, 70, 1, 1),
-    ];
-    leads(
-        &rt,
-        alloc,
-        &[1, 3],
-        &edges,
-        0,
-        at(1, 1),
-        &[call(0, 0, 26, 1, 2), call(1, 2, 70, 1, 1)],
-    )?;
-    leads(
-        &rt,
-        alloc,
-        &[1, 3],
-        &edges,
-        0,
-        at(1, 0),
-        &[call(0, 0, 15, 1, 0)],
-    )?;
-    counts(&rt, alloc, &[1, 3], &edges, 0, 4)
-}
+const SHORTEST: &str = r#"
+graph 4
+    0:0 5 0:2
+    0:0 10 0:1
+    0:1 20 0:3
+    0:2 30 0:3
+path 0 0:3
+    0:0 10 0:1
+    0:1 20 0:3
+# A longer walk over lesser edges is no path.
+graph 4
+    0:0 1 0:1
+    0:1 2 0:2
+    0:2 3 0:3
+    0:0 9 0:2
+path 0 0:3
+    0:0 9 0:2
+    0:2 3 0:3
+# Sites at one offset are told apart.
+graph 4
+    0:0 5 0:1
+    0:0 5 0:2
+    0:1 7 0:3
+    0:2 7 0:3
+path 0 0:1
+    0:0 5 0:1
+path 0 0:2
+    0:0 5 0:2
+path 0 0:3
+    0:0 5 0:1
+    0:1 7 0:3
+"#;
 
 // A function of a module, by their numbers.
 pub(crate) fn at(module: u32, function: u32) -> FunctionRef {
@@ -212,52 +130,6 @@ pub(crate) fn call(
         offset,
         callee: at(to_module, to_function),
     }
-}
-
-// Compares the path to a function.
-fn leads(
-    rt: &impl Abort,
-    alloc: Global,
-    functions: &[u32],
-    edges: &[Edge],
-    entry: u32,
-    to: FunctionRef,
-    path: &[Edge],
-) -> Result<(), Fail> {
-    let found = reach_of(alloc, functions, edges, entry)?;
-    assert!(rt; found.has(to));
-    match found.path(alloc, to)? {
-        Some(edges) => assert_eq!(rt; edges.as_slice(), path),
-        None => assert!(rt; false),
-    }
-    Ok(())
-}
-
-fn leads_nowhere(
-    rt: &impl Abort,
-    alloc: Global,
-    functions: &[u32],
-    edges: &[Edge],
-    entry: u32,
-    to: FunctionRef,
-) -> Result<(), Fail> {
-    let found = reach_of(alloc, functions, edges, entry)?;
-    assert!(rt; !found.has(to));
-    assert!(rt; found.path(alloc, to)?.is_none());
-    Ok(())
-}
-
-fn counts(
-    rt: &impl Abort,
-    alloc: Global,
-    functions: &[u32],
-    edges: &[Edge],
-    entry: u32,
-    count: u32,
-) -> Result<(), Fail> {
-    let found = reach_of(alloc, functions, edges, entry)?;
-    assert_eq!(rt; found.count(), count);
-    Ok(())
 }
 
 // What `reach` answers, where its conditions hold.

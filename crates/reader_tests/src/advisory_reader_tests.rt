@@ -1,32 +1,9 @@
+//! Tests of advisory files.
+use crate::tables::{RowKind, rows_hold};
 use advisory_reader::{AdvisoryFault, Field, read_advisories};
 use semver::Version;
 use std::alloc::Global;
-use std::process::Abort;
 use std::test::Fail;
-
-/// The fault of a text.
-fn check_fault(rt: &impl Abort, alloc: Global, text: &str, fault: AdvisoryFault) {
-    assert!(rt;
-        read_advisories(alloc, text.as_bytes()).err() == Some(fault),
-        "{text}"
-    );
-}
-
-fn field_at(index: u32, field: Field) -> AdvisoryFault {
-    AdvisoryFault::Field { index, field }
-}
-
-/// The fault of a list with this one item.
-fn check_field(rt: &impl Abort, alloc: Global, item: &str, field: Field) -> Result<(), Fail> {
-    let text = format!(in alloc; "{{\"advisories\":[{item}]}}")?;
-    check_fault(
-        rt,
-        alloc,
-        text.as_str(),
-        AdvisoryFault::Field { index: 0, field },
-    );
-    Ok(())
-}
 
 #[test]
 fn a_list_is_read(rt: HostRuntime) -> Result<(), Fail> {
@@ -54,74 +31,79 @@ fn a_list_is_read(rt: HostRuntime) -> Result<(), Fail> {
 }
 
 #[test]
-fn files_of_another_shape_are_refused(rt: HostRuntime) {
+fn files_of_another_shape_are_refused(rt: HostRuntime) -> Result<(), Fail> {
+    rows_hold(&rt, rt.alloc(), RowKind::Advisories, SHAPES)
+}
+
+const SHAPES: &str = r#"
+{} ⇒ wrong shape
+[] ⇒ wrong shape
+3 ⇒ wrong shape
+{"advisories":{}} ⇒ wrong shape
+∅ ⇒ not JSON
+[ ⇒ not JSON
+{"advisories":[} ⇒ not JSON
+"#;
+
+// The fault of a text, as it is printed.
+pub(crate) fn advisories_answer(alloc: Global, text: &str) -> Result<String, Fail> {
+    match read_advisories(alloc, text.as_bytes()) {
+        Ok(_) => Err(Fail::from("no fault")),
+        Err(fault) => Ok(format!(in alloc; "{fault}")?),
+    }
+}
+
+#[test]
+fn arrays_that_nest_128_times_are_refused(rt: HostRuntime) -> Result<(), Fail> {
     let alloc = rt.alloc();
-    for text in ["{}", "[]", "3", "{\"advisories\":{}}"] {
-        check_fault(&rt, alloc, text, AdvisoryFault::Shape);
-    }
-    for text in ["", "[", "{\"advisories\":[}"] {
-        check_fault(&rt, alloc, text, AdvisoryFault::NotJson);
-    }
     let mut deep = String::new(alloc);
     for text in ["["; 128] {
-        assert!(rt; deep.push_str(text).is_ok());
+        deep.push_str(text)?;
     }
     for text in ["]"; 128] {
-        assert!(rt; deep.push_str(text).is_ok());
+        deep.push_str(text)?;
     }
-    check_fault(&rt, alloc, deep.as_str(), AdvisoryFault::NotJson);
+    let fault = read_advisories(alloc, deep.as_str().as_bytes()).err();
+    assert!(rt; fault == Some(AdvisoryFault::NotJson));
+    Ok(())
 }
 
 #[test]
 fn members_are_checked_in_order(rt: HostRuntime) -> Result<(), Fail> {
-    let alloc = rt.alloc();
-    let rows = [
-        ("3", Field::Id),
-        ("[]", Field::Id),
-        ("{}", Field::Id),
-        ("{\"id\":\"\"}", Field::Id),
-        ("{\"id\":3}", Field::Id),
-        ("{\"id\":null,\"range\":3}", Field::Id),
-        ("{\"id\":\"A\",\"id\":\"\"}", Field::Id),
-        ("{\"id\":\"A\"}", Field::Package),
-        ("{\"id\":\"A\",\"package\":\"\"}", Field::Package),
-        ("{\"id\":\"A\",\"package\":[]}", Field::Package),
-        ("{\"id\":\"A\",\"range\":3}", Field::Package),
-        ("{\"id\":\"A\",\"package\":\"a\"}", Field::Range),
-        ("{\"id\":\"A\",\"package\":\"a\",\"range\":1}", Field::Range),
-        (
-            "{\"id\":\"A\",\"package\":\"a\",\"range\":\"*\"}",
-            Field::Functions,
-        ),
-        (
-            "{\"id\":\"A\",\"package\":\"a\",\"range\":\"*\",\"functions\":{}}",
-            Field::Functions,
-        ),
-        (
-            "{\"id\":\"A\",\"package\":\"a\",\"range\":\"*\",\"functions\":[3]}",
-            Field::Functions,
-        ),
-        (
-            "{\"id\":\"A\",\"package\":\"a\",\"range\":\"*\",\"functions\":[{\"file\":\"*\"}]}",
-            Field::Functions,
-        ),
-        (
-            "{\"id\":\"A\",\"package\":\"a\",\"range\":\"*\",\"functions\":[{\"name\":\"f\"}]}",
-            Field::Functions,
-        ),
-        (
-            "{\"id\":\"A\",\"package\":\"a\",\"range\":\"*\",\"functions\":[{\"file\":1,\"name\":\"f\"}]}",
-            Field::Functions,
-        ),
-        (
-            "{\"id\":\"A\",\"package\":\"a\",\"range\":\"*\",\"functions\":[{\"file\":\"\",\"name\":\"\"},{\"file\":\"*\",\"name\":null}]}",
-            Field::Functions,
-        ),
-    ];
-    for (item, field) in rows {
-        check_field(&rt, alloc, item, field)?;
-    }
-    Ok(())
+    rows_hold(&rt, rt.alloc(), RowKind::Advisory, MEMBERS)
+}
+
+const MEMBERS: &str = r#"
+3 ⇒ advisory 0: id
+[] ⇒ advisory 0: id
+{} ⇒ advisory 0: id
+{"id":""} ⇒ advisory 0: id
+{"id":3} ⇒ advisory 0: id
+{"id":null,"range":3} ⇒ advisory 0: id
+{"id":"A","id":""} ⇒ advisory 0: id
+{"id":"A"} ⇒ advisory 0: package
+{"id":"A","package":""} ⇒ advisory 0: package
+{"id":"A","package":[]} ⇒ advisory 0: package
+{"id":"A","range":3} ⇒ advisory 0: package
+{"id":"A","package":"a"} ⇒ advisory 0: range
+{"id":"A","package":"a","range":1} ⇒ advisory 0: range
+{"id":"A","package":"a","range":"*"} ⇒ advisory 0: functions
+{"id":"A","package":"a","range":"*","functions":{}} ⇒ advisory 0: functions
+{"id":"A","package":"a","range":"*","functions":[3]} ⇒ advisory 0: functions
+{"id":"A","package":"a","range":"*","functions":[{"file":"*"}]} ⇒ advisory 0: functions
+{"id":"A","package":"a","range":"*","functions":[{"name":"f"}]} ⇒ advisory 0: functions
+{"id":"A","package":"a","range":"*","functions":[{"file":1,"name":"f"}]} ⇒ advisory 0: functions
+{"id":"A","package":"a","range":"*","functions":[
+    {"file":"","name":""},{"file":"*","name":null}]} ⇒ advisory 0: functions
+# The first bad advisory is told.
+{"id":"A","package":"a","range":"*","functions":[]},
+    {"id":"A","package":"a","range":"^1.0.0"},3 ⇒ advisory 1: range at 0
+"#;
+
+// The fault of a file with these advisories.
+pub(crate) fn advisory_answer(alloc: Global, text: &str) -> Result<String, Fail> {
+    let file = format!(in alloc; "{{\"advisories\":[{text}]}}")?;
+    advisories_answer(alloc, file.as_str())
 }
 
 #[test]
@@ -149,18 +131,6 @@ fn faults_have_their_messages(rt: HostRuntime) -> Result<(), Fail> {
     Ok(())
 }
 
-#[test]
-fn the_first_bad_advisory_is_told(rt: HostRuntime) {
-    let good = "{\"id\":\"A\",\"package\":\"a\",\"range\":\"*\",\"functions\":[]}";
-    let bad = "{\"id\":\"A\",\"package\":\"a\",\"range\":\"^1.0.0\"}";
-    let mut buffer = String::new(rt.alloc());
-    for part in ["{\"advisories\":[", good, ",", bad, ",3]}"] {
-        assert!(rt; buffer.push_str(part).is_ok());
-    }
-    check_fault(
-        &rt,
-        rt.alloc(),
-        buffer.as_str(),
-        AdvisoryFault::Range { index: 1, at: 0 },
-    );
+fn field_at(index: u32, field: Field) -> AdvisoryFault {
+    AdvisoryFault::Field { index, field }
 }

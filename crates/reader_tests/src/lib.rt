@@ -17,3 +17,5 @@ mod npm_range_tests;
 mod package_tests;
 #[cfg(test)]
 mod source_tests;
+#[cfg(test)]
+mod tables;

@@ -1,107 +1,113 @@
+//! Tests of ranges.
+use crate::tables::{RowKind, rows_hold};
 use npm_range::{Range, RangeFault};
 use semver::Version;
 use std::alloc::Global;
-use std::process::Abort;
 use std::test::Fail;
-
-/// A range holds for the first versions and not for the others.
-fn check_range(
-    rt: &impl Abort,
-    alloc: Global,
-    text: &str,
-    inside: &[&str],
-    outside: &[&str],
-) -> Result<(), Fail> {
-    let range = Range::read(alloc, text)?;
-    for version in inside {
-        assert!(rt;
-            range.holds(&Version::parse(alloc, version)?),
-            "{text} {version}"
-        );
-    }
-    for version in outside {
-        assert!(rt;
-            !range.holds(&Version::parse(alloc, version)?),
-            "{text} {version}"
-        );
-    }
-    Ok(())
-}
-
-/// The first bad piece of a text is at this offset.
-fn check_fault(rt: &impl Abort, alloc: Global, text: &str, offset: u32) {
-    assert!(rt;
-        Range::read(alloc, text).err() == Some(RangeFault::At { offset }),
-        "{text}"
-    );
-}
 
 #[test]
 fn ranges_hold_by_precedence(rt: HostRuntime) -> Result<(), Fail> {
-    let alloc = rt.alloc();
-    check_range(&rt, alloc, "<1.2.0", &["1.1.9", "1.2.0-rc.1"], &["1.2.0"])?;
-    check_range(&rt, alloc, "*", &["0.0.0-0"], &[])?;
-    check_range(&rt, alloc, "", &["0.0.0-0"], &[])?;
-    let union = ">=1.0.0 <1.2.0 || 2.0.0";
-    check_range(&rt, alloc, union, &["2.0.0", "2.0.0+b"], &["1.5.0"])?;
-    check_range(&rt, alloc, "<=1.2.0", &["1.2.0", "1.2.0+x"], &["1.2.1-0"])?;
-    check_range(&rt, alloc, ">1.2.0", &["1.2.1-0"], &["1.2.0", "1.2.0+x"])?;
-    check_range(&rt, alloc, "=1.0.0-rc.1", &["1.0.0-rc.1+b"], &["1.0.0"])?;
-    check_range(&rt, alloc, "1.0.0+a", &["1.0.0+b", "1.0.0"], &["1.0.1"])
+    rows_hold(&rt, rt.alloc(), RowKind::Versions, RANGES)
 }
 
-#[test]
-fn pre_releases_have_the_order_of_the_standard(rt: HostRuntime) -> Result<(), Fail> {
-    let alloc = rt.alloc();
-    let ascending = [
-        "1.0.0-alpha",
-        "1.0.0-alpha.1",
-        "1.0.0-alpha.beta",
-        "1.0.0-beta",
-        "1.0.0-beta.2",
-        "1.0.0-beta.11",
-        "1.0.0-rc.1",
-        "1.0.0",
-    ];
-    for pair in ascending.windows(2) {
-        if let [below, above] = pair {
-            let range = Range::read(alloc, above)?;
-            let less = Range::read(alloc, &format!(in alloc; "<{above}")?)?;
-            let version = Version::parse(alloc, below)?;
-            assert!(rt; less.holds(&version) && !range.holds(&version));
+const RANGES: &str = r#"
+<1.2.0 ⇒ 1.1.9 1.2.0-rc.1 !1.2.0
+* ⇒ 0.0.0-0
+∅ ⇒ 0.0.0-0
+>=1.0.0 <1.2.0 || 2.0.0 ⇒ 2.0.0 2.0.0+b !1.5.0
+<=1.2.0 ⇒ 1.2.0 1.2.0+x !1.2.1-0
+>1.2.0 ⇒ 1.2.1-0 !1.2.0 !1.2.0+x
+=1.0.0-rc.1 ⇒ 1.0.0-rc.1+b !1.0.0
+1.0.0+a ⇒ 1.0.0+b 1.0.0 !1.0.1
+# Pre-releases have the order of the standard.
+<1.0.0-alpha.1 ⇒ 1.0.0-alpha
+1.0.0-alpha.1 ⇒ !1.0.0-alpha
+<1.0.0-alpha.beta ⇒ 1.0.0-alpha.1
+1.0.0-alpha.beta ⇒ !1.0.0-alpha.1
+<1.0.0-beta ⇒ 1.0.0-alpha.beta
+1.0.0-beta ⇒ !1.0.0-alpha.beta
+<1.0.0-beta.2 ⇒ 1.0.0-beta
+1.0.0-beta.2 ⇒ !1.0.0-beta
+<1.0.0-beta.11 ⇒ 1.0.0-beta.2
+1.0.0-beta.11 ⇒ !1.0.0-beta.2
+<1.0.0-rc.1 ⇒ 1.0.0-beta.11
+1.0.0-rc.1 ⇒ !1.0.0-beta.11
+<1.0.0 ⇒ 1.0.0-rc.1
+1.0.0 ⇒ !1.0.0-rc.1
+# Spaces, bars and lone operators.
+> 1.0.0 ⇒ 1.1.0 !1.0.0
+>   1.0.0 ⇒ 1.1.0 !1.0.0
+  >1.0.0   ⇒ 1.1.0 !1.0.0
+>1.0.0||>1.5.0 ⇒ 1.1.0 !1.0.0
+>1.0.0 * * ⇒ 1.1.0 !1.0.0
+> 1.0.0 <= 2.0.0 || 3.0.0 ⇒ 1.1.0 !1.0.0
+9.0.0||>1.0.0 ⇒ 1.1.0 !1.0.0
+>1.0.0 ||> 4.0.0 ⇒ 1.1.0 !1.0.0
+|| ⇒ 1.1.0 0.0.0-0
+9.0.0|| ⇒ 1.1.0 0.0.0-0
+||9.0.0 ⇒ 1.1.0 0.0.0-0
+∅    ⇒ 1.1.0 0.0.0-0
+*||9.0.0 ⇒ 1.1.0 0.0.0-0
+9.0.0||    ⇒ 1.1.0 0.0.0-0
+9.0.0 || *  ⇒ 1.1.0 0.0.0-0
+"#;
+
+// The versions that stand between spaces, each with `!` in front where the range doesn't hold for it.
+pub(crate) fn versions_answer(alloc: Global, text: &str, versions: &str) -> Result<String, Fail> {
+    let range = Range::read(alloc, text)?;
+    let mut answer = String::new(alloc);
+    for word in versions.split(' ') {
+        let version = word.strip_prefix("!").unwrap_or(word);
+        if !answer.is_empty() {
+            answer.push(' ')?;
         }
+        if !range.holds(&Version::parse(alloc, version)?) {
+            answer.push('!')?;
+        }
+        answer.push_str(version)?;
     }
-    Ok(())
+    Ok(answer)
 }
 
 #[test]
-fn spaces_bars_and_lone_operators(rt: HostRuntime) -> Result<(), Fail> {
-    let alloc = rt.alloc();
-    let texts = [
-        "> 1.0.0",
-        ">   1.0.0",
-        "  >1.0.0  ",
-        ">1.0.0||>1.5.0",
-        ">1.0.0 * *",
-        "> 1.0.0 <= 2.0.0 || 3.0.0",
-        "9.0.0||>1.0.0",
-        ">1.0.0 ||> 4.0.0",
-    ];
-    for text in texts {
-        check_range(&rt, alloc, text, &["1.1.0"], &["1.0.0"])?;
+fn bad_pieces_have_their_offset(rt: HostRuntime) -> Result<(), Fail> {
+    rows_hold(&rt, rt.alloc(), RowKind::Range, BAD_PIECES)
+}
+
+const BAD_PIECES: &str = r#"
+>1.0.0 < ⇒ range at 7
+^1.0.0 ⇒ range at 0
+1.2 ⇒ range at 0
+> =1.0.0 ⇒ range at 0
+~1.0.0 ⇒ range at 0
+1.x ⇒ range at 0
+v1.0.0 ⇒ range at 0
+1.0.0 - 2.0.0 ⇒ range at 6
+> * ⇒ range at 0
+>* ⇒ range at 0
+** ⇒ range at 0
+=>1.0.0 ⇒ range at 0
+==1.0.0 ⇒ range at 0
+<1.0.0|2.0.0 ⇒ range at 0
+1.0.0|||2.0.0 ⇒ range at 7
+  1.0.0  01.0.0 ⇒ range at 9
+1.0.0␉ ⇒ range at 0
+> || 1.0.0 ⇒ range at 0
+1.0.0 || <= || ⇒ range at 9
+é ⇒ range at 0
+é||1.0.0 ⇒ range at 0
+* é ⇒ range at 2
+1.0.0-01 ⇒ range at 0
+18446744073709551616.0.0 ⇒ range at 0
+latest ⇒ range at 0
+"#;
+
+// The fault of a text, as it is printed.
+pub(crate) fn range_answer(alloc: Global, text: &str) -> Result<String, Fail> {
+    match Range::read(alloc, text) {
+        Ok(_) => Err(Fail::from("no fault")),
+        Err(fault) => Ok(format!(in alloc; "{fault}")?),
     }
-    for text in [
-        "||",
-        "9.0.0||",
-        "||9.0.0",
-        "   ",
-        "*||9.0.0",
-        "9.0.0||   ",
-        "9.0.0 || * ",
-    ] {
-        check_range(&rt, alloc, text, &["1.1.0", "0.0.0-0"], &[])?;
-    }
-    Ok(())
 }
 
 #[test]
@@ -111,38 +117,4 @@ fn faults_have_their_messages(rt: HostRuntime) -> Result<(), Fail> {
     let memory = format!(in alloc; "{}", RangeFault::OutOfMemory)?;
     assert!(rt; at.as_str() == "range at 7" && memory.as_str() == "out of memory");
     Ok(())
-}
-
-#[test]
-fn bad_pieces_have_their_offset(rt: HostRuntime) {
-    let refused = [
-        (">1.0.0 <", 7),
-        ("^1.0.0", 0),
-        ("1.2", 0),
-        ("> =1.0.0", 0),
-        ("~1.0.0", 0),
-        ("1.x", 0),
-        ("v1.0.0", 0),
-        ("1.0.0 - 2.0.0", 6),
-        ("> *", 0),
-        (">*", 0),
-        ("**", 0),
-        ("=>1.0.0", 0),
-        ("==1.0.0", 0),
-        ("<1.0.0|2.0.0", 0),
-        ("1.0.0|||2.0.0", 7),
-        ("  1.0.0  01.0.0", 9),
-        ("1.0.0\t", 0),
-        ("> || 1.0.0", 0),
-        ("1.0.0 || <= ||", 9),
-        ("\u{e9}", 0),
-        ("\u{e9}||1.0.0", 0),
-        ("* \u{e9}", 2),
-        ("1.0.0-01", 0),
-        ("18446744073709551616.0.0", 0),
-        ("latest", 0),
-    ];
-    for (text, offset) in refused {
-        check_fault(&rt, rt.alloc(), text, offset);
-    }
 }

@@ -1,4 +1,4 @@
-use Rattle.std.proofs.Common.{◌≡◌, ◌↔◌, ◌∙◌, false, length, ap, subst, sym, arith}
+use Rattle.std.proofs.Common.{◌≡◌, ◌≤◌, ◌+◌, ◌↔◌, ◌∙◌, false, length, ap, subst, sym, arith}
 use Rattle.std.specs.Prelude.{Contains}
 use Rattle.flow_fold.specs.Pairs.{is_internal}
 use Rattle.composer.specs.declared.application.ModuleVertex.{ModuleVertex}
@@ -7,6 +7,7 @@ use Rattle.composer.specs.declared.system.System.{System}
 use Rattle.composer.specs.Graphs.{AreValues, CallGraph, function_count}
 use Rattle.composer.specs.Numbers.{values_of}
 use Rattle.composer.specs.Solution.{InSolution}
+use Rattle.composer.specs.Uses.{TellsSolution, bases_of, uses_of}
 use Rattle.composer.specs.Parts.{lists_of}
 use Rattle.composer.specs.Solved.{HasOneNumber}
 use Rattle.composer.proofs.NumberLemmas.{system_members}
@@ -40,10 +41,15 @@ returns-clause-values g c =
     let links = c.args.links.now in
     let a = c.in_ok-system.system in
     let vs = c.in_ok-vertices.vertices in
-    let rows = c.in_ok-sites.field-0.sets in
+    let rows = c.in_ok-sites.field-0.sets.sets in
     let found = values_of a.functions vs rows in
     let of_system : (t : Value) (v : ModuleVertex) → Contains {X = Value × ModuleVertex} found (t, v) ↔ ((is_internal v.vertex ≡ false) × InSolution a t v)
     = values_are a vs rows c.in_ok-sites.ensures.solved (system_members vs a c.in_ok-vertices.ensures.all) in
     let are : AreValues modules links found
     = subst (λ (x : System ModuleVertex Value). (t : Value) (v : ModuleVertex) → Contains {X = Value × ModuleVertex} found (t, v) ↔ ((is_internal v.vertex ≡ false) × InSolution x t v)) c.in_ok-system.ensures of_system in
     subst (AreValues modules links) (sym (ap (λ (x : CallGraph). x.values) c.of-2.ensures)) are
+
+pub returns-clause-work : goal.returns-clause-work
+returns-clause-work g c has tells =
+    subst (λ (x : System ModuleVertex Value). c.solved.new.steps ≤ c.args.steps.now + uses_of x has + bases_of x) c.in_ok-system.ensures
+    (c.in_ok-sites.ensures.work has (subst (λ (x : System ModuleVertex Value). TellsSolution x has) (sym c.in_ok-system.ensures) tells))

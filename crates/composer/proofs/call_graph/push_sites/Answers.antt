@@ -16,7 +16,7 @@ loop-m-init c = (AddsEdges-none (IsEdgeBelow c.args.system.now (lists_of c.args.
 pub push_sites_of-requires : goal.push_sites_of-requires
 push_sites_of-requires c =
     let a = c.args.system.now in
-    let rows = c.args.sets.now in
+    let rows = c.args.sets.now.sets in
     let m = c.loop-m.m in
     let part = c.index-parts-m.result in
     let rest = c.loop-m.rest.now in
@@ -28,7 +28,7 @@ push_sites_of-requires c =
 pub loop-m-preserved : goal.loop-m-preserved
 loop-m-preserved c =
     let a = c.args.system.now in
-    let rows = c.args.sets.now in
+    let rows = c.args.sets.now.sets in
     let parts = c.args.parts.now in
     let m = c.loop-m.m in
     let part = c.index-parts-m.result in

@@ -10,12 +10,12 @@ pub loop-k-init : goal.loop-k-init
 loop-k-init c = AddsEdges-none (IsEdgeAmong c.args.system.now c.args.m []) c.args.out.now.items (λ e h. none h.0 h.1)
 
 pub bounds-numbers-k : goal.bounds-numbers-k
-bounds-numbers-k c = omega (arith, c.loop-k-test.true, numbered_count c.args.system.now c.args.sets.now c.args.m c.args.sites.now c.args.numbers.now c.requires)
+bounds-numbers-k c = omega (arith, c.loop-k-test.true, numbered_count c.args.system.now c.args.sets.now.sets c.args.m c.args.sites.now c.args.numbers.now c.requires)
 
 pub loop-k-preserved : goal.loop-k-preserved
 loop-k-preserved c =
     let a = c.args.system.now in
-    let rows = c.args.sets.now in
+    let rows = c.args.sets.now.sets in
     let m = c.args.m in
     let sites = c.args.sites.now in
     let k = c.loop-k.k in

@@ -45,4 +45,4 @@ pub returns-clause-values : goal.returns-clause-values
 returns-clause-values c = c.loop-k.invariant.1.places
 
 pub returns-clause-few : goal.returns-clause-few
-returns-clause-few c = omega (arith, c.loop-k.invariant.1.count, c.loop-k.auto.k-end, c.if-functions-gt-MOST.false)
+returns-clause-few c = omega (arith, c.loop-k.invariant.1.count, c.loop-k.auto.k-end, c.if-functions-ge-MOST.false)
