@@ -15,8 +15,14 @@ loop-listed-init c =
 pub loop-listed-smaller : goal.loop-listed-smaller
 loop-listed-smaller c = taken_shorter _ _ c.in-Some.listed c.in-Some.ensures
 
-pub loop-listed-preserved : goal.loop-listed-preserved
-loop-listed-preserved c = record {
+pub loop-listed-preserved-in_ok-push : goal.loop-listed-preserved-in_ok-push
+loop-listed-preserved-in_ok-push c = record {
+  first = first_step c.loop-listed.front _ c.in-Some.listed c.loop-listed.first c.in-Some.ensures ∙ c.loop-listed.invariant.first;
+  others = others_step c.loop-listed.front _ c.in-Some.listed c.loop-listed.first c.loop-listed.others _ c.in-Some.ensures c.in_ok-push.ensures.ok ∙ c.loop-listed.invariant.others;
+}
+
+pub loop-listed-preserved-in_ok-push-2 : goal.loop-listed-preserved-in_ok-push-2
+loop-listed-preserved-in_ok-push-2 c = record {
   first = first_step c.loop-listed.front _ c.in-Some.listed c.loop-listed.first c.in-Some.ensures ∙ c.loop-listed.invariant.first;
   others = others_step c.loop-listed.front _ c.in-Some.listed c.loop-listed.first c.loop-listed.others _ c.in-Some.ensures c.in_ok-push.ensures.ok ∙ c.loop-listed.invariant.others;
 }
