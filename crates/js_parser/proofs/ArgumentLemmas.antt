@@ -10,7 +10,7 @@ use Rattle.js_tree.specs.Lexing.{Place}
 use Rattle.js_tree.specs.Pieces.{Piece, Tok, kind as kind_of}
 use Rattle.js_tree.specs.Spelling.{expr}
 use Rattle.js_tree.specs.Spelling.Nodes.{all_within, passes, pieces, unmarked}
-use Rattle.js_tree.specs.Spelling.Rows.{bracket_row, each_of, element_row, listed_row, may_mark, maybe}
+use Rattle.js_tree.specs.Spelling.Rows.{round_row, each_of, element_row, listed_row, may_mark, maybe}
 use Rattle.js_tree.specs.TokenKinds.{is}
 use Rattle.js_tree.proofs.KindLemmas.{is_same}
 use Rattle.js_tokens.proofs.PieceLemmas.{same_test}
@@ -47,36 +47,36 @@ arguments_else room x rest holds after = by_dots x.dots
     by_dots None = no_kind_expr kinds.RightParen refl x.value rest
     by_dots (Some t) = no_kind_before (is kinds.RightParen) kinds.Dots refl refl t (expr_line x.value rest)
 
-pub inside_arguments : (room : ℕ) (x : Tall (Bracket Expr)) → ArgumentsAt room x → EnclosedAt argument_kind room (enclosed_of x)
+pub inside_arguments : (room : ℕ) (x : Tall (Bracket (Element Expr))) → ArgumentsAt room x → EnclosedAt argument_kind room (enclosed_of x)
 inside_arguments = in_brackets expr_line argument_stands (λ (x : Expr). (expr x).height)
 
-pub arguments_in_brackets : (room : ℕ) (b : Bracket Expr) (height : ℕ) → EnclosedAt argument_kind room (enclosed_of (record { node = b; height = height })) → ArgumentsAt room (record { node = b; height = height })
+pub arguments_in_brackets : (room : ℕ) (b : Bracket (Element Expr)) (height : ℕ) → EnclosedAt argument_kind room (enclosed_of (record { node = b; height = height })) → ArgumentsAt room (record { node = b; height = height })
 arguments_in_brackets = as_bracket expr_line argument_stands (λ (x : Expr). (expr x).height)
 
 -- ARGUMENTS THAT MAY STAND
 
 -- there are none where no `(` is told
-pub arguments_none : (p : Place) (k : TokenKind) → IsNextKind p k → is kinds.LeftParen k ≡ false → (o : Option (Bracket Expr)) (rest : List Piece) → Reads p (maybe arguments_line o rest) → o ≡ None
+pub arguments_none : (p : Place) (k : TokenKind) → IsNextKind p k → is kinds.LeftParen k ≡ false → (o : Option (Bracket (Element Expr))) (rest : List Piece) → Reads p (maybe arguments_line o rest) → o ≡ None
 arguments_none p k next other None rest r = refl
 arguments_none p k next other (Some b) rest r =
     absurd (other_told kinds.LeftParen refl p k next other b.«open» (each_of (listed_row pieces argument_line) b.front (maybe argument_line b.last (Tok b.close (is kinds.RightParen) ∷ rest))) r)
 
 -- and some where one is
-pub arguments_some : (p : Place) (k : TokenKind) → IsNextKind p k → is kinds.LeftParen k ≡ true → (x : Tall (Option (Bracket Expr))) (rest : List Piece) → NoArguments x rest → Reads p (maybe arguments_line x.node rest)
-    → (b : Bracket Expr) × (x.node ≡ Some b) × Reads p (arguments_line b rest)
+pub arguments_some : (p : Place) (k : TokenKind) → IsNextKind p k → is kinds.LeftParen k ≡ true → (x : Tall (Option (Bracket (Element Expr)))) (rest : List Piece) → NoArguments x rest → Reads p (maybe arguments_line x.node rest)
+    → (b : Bracket (Element Expr)) × (x.node ≡ Some b) × Reads p (arguments_line b rest)
 arguments_some p k next here x rest none r = by_node x.node none r
   where
-    by_node : (o : Option (Bracket Expr)) → (is_some o ≡ false → NoKind (is kinds.LeftParen) rest) → Reads p (maybe arguments_line o rest) → (b : Bracket Expr) × (o ≡ Some b) × Reads p (arguments_line b rest)
+    by_node : (o : Option (Bracket (Element Expr))) → (is_some o ≡ false → NoKind (is kinds.LeftParen) rest) → Reads p (maybe arguments_line o rest) → (b : Bracket (Element Expr)) × (o ≡ Some b) × Reads p (arguments_line b rest)
     by_node None none r =
         let t = next_of kinds.LeftParen refl p k next here in
         absurd (true≢false (sym (ap (is kinds.LeftParen) t.3) ∙ none refl p r t.0 t.1 t.2 (ap (reads goal.Operator) t.3)))
     by_node (Some b) none r = (b, refl, r)
 
-abbrev pub maybe_tall : Option (Bracket Expr) → ℕ
-maybe_tall o = maybe (bracket_row unmarked higher) o 0
+abbrev pub maybe_tall : Option (Bracket (Element Expr)) → ℕ
+maybe_tall o = maybe (round_row unmarked higher) o 0
 
-abbrev pub tall_bracket : Tall (Option (Bracket Expr)) → Bracket Expr → Tall (Bracket Expr)
+abbrev pub tall_bracket : Tall (Option (Bracket (Element Expr))) → Bracket (Element Expr) → Tall (Bracket (Element Expr))
 tall_bracket x b = record { node = b; height = x.height }
 
-pub arguments_in : (room : ℕ) (x : Tall (Option (Bracket Expr))) (b : Bracket Expr) → x.node ≡ Some b → MaybeArgumentsAt room x → ArgumentsAt room (tall_bracket x b)
+pub arguments_in : (room : ℕ) (x : Tall (Option (Bracket (Element Expr)))) (b : Bracket (Element Expr)) → x.node ≡ Some b → MaybeArgumentsAt room x → ArgumentsAt room (tall_bracket x b)
 arguments_in room x b e at = record { each = sym (ap (passes (all_within argument_stands)) e) ∙ at.each; height = at.height ∙ ap maybe_tall e; fits = at.fits }

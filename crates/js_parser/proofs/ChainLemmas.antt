@@ -5,6 +5,7 @@ use Rattle.std.specs.List.{list_all, list_any}
 use Rattle.std.proofs.lemmas.Bool.{and_parts, false_from_ne_true, le-leb, leb-true, not-true, or_parts}
 use Rattle.std.proofs.lemmas.Bool.Decides.{nat_tests}
 use Rattle.std.proofs.lemmas.List.Folds.{list_all-map}
+use Rattle.js_tree.specs.Folds.{ExprOf}
 use Rattle.js_tree.specs.declared.lists.Bracket.{Bracket}
 use Rattle.js_tree.specs.declared.lists.Element.{Element}
 use Rattle.js_tree.specs.declared.lists.Listed.{Listed}
@@ -16,13 +17,13 @@ use Rattle.js_tree.specs.declared.tree.Expr.{Expr, out-Expr, roll-Expr}
 use Rattle.js_tree.specs.declared.tree.Expr.TheOpen.{Expr-F}
 use Rattle.js_tree.specs.Lexing.{Place}
 use Rattle.js_tree.specs.Pieces.{Piece, kind as kind_of}
-use Rattle.js_tree.specs.Spelling.{expr, function, pattern, stmt, slot, tallest_of}
+use Rattle.js_tree.specs.Spelling.{seen_views, expr, function, pattern, stmt, slot, tallest_of}
 use Rattle.js_tree.specs.Spelling.Chains.{arguments_fit, tail_fits, is_call, calls}
 use Rattle.js_tree.specs.Spelling.Expressions.{expr_musts, expr_row}
 use Rattle.js_tree.specs.Spelling.Nodes.{Seen, POWER, POSTFIX, CHAIN, NEW, MADE, musts, pieces, unmarked, stands, is_empty, passes, all_within, is_named, seen_line}
 use Rattle.js_tree.specs.Spelling.Rows.{each_of, tail_row, template_parts}
 use Rattle.js_tree.specs.TokenKinds.{is}
-use Rattle.js_tree.proofs.Folds.{map_maybe, map_listed, map_bracket, map_tail, layer-Chain}
+use Rattle.js_tree.proofs.Folds.{map_maybe, map_listed, map_round, map_tail, layer-Chain}
 use Rattle.js_tree.proofs.KindLemmas.{every, is_itself, is_same}
 use Rattle.js_tree.proofs.RowLemmas.{tails_map}
 use Rattle.js_tree.proofs.SpellingLemmas.{at-Chain, seen_lines}
@@ -50,7 +51,7 @@ use Rattle.js_parser.specs.declared.tall.Value.{Value}
 pub parts_seen : (xs : List (Listed Expr)) → list_all (λ x. stands 0 x.item) (map (map_listed expr) xs) ≡ list_all substitution_stands xs
 parts_seen xs = list_all-map (λ (x : Listed Seen). stands 0 x.item) (map_listed expr) xs
 
-pub args_seen : (o : Option (Bracket Expr)) → passes arguments_fit (map_maybe (map_bracket expr) o) ≡ passes (all_within argument_stands) o
+pub args_seen : (o : Option (Bracket (Element Expr))) → passes arguments_fit (map_maybe (map_round expr) o) ≡ passes (all_within argument_stands) o
 args_seen None = refl
 args_seen (Some b) = within_seen (λ (x : Element Seen). stands 1 x.value) expr b
 
@@ -82,7 +83,7 @@ pub any_seen : (ts : List (Tail Expr)) → list_any is_call (map (map_tail expr)
 any_seen [] = refl
 any_seen (t ∷ ts) = λ i. call_seen t i || any_seen ts i
 
-pub some_seen : (o : Option (Bracket Expr)) → is_some (map_maybe (map_bracket expr) o) ≡ is_some o
+pub some_seen : (o : Option (Bracket (Element Expr))) → is_some (map_maybe (map_round expr) o) ≡ is_some o
 some_seen None = refl
 some_seen (Some b) = refl
 
@@ -205,7 +206,7 @@ abbrev pub tall_tails : List (Tail Expr) → Tall (List (Tail Expr))
 tall_tails ts = record { node = ts; height = tallest_of tail_height ts }
 
 -- what is asked of a chain
-abbrev chain_layer : Expr → List (Tail Expr) → Expr-F Seen Seen Seen Seen Seen
+abbrev chain_layer : Expr → List (Tail Expr) → ExprOf Seen
 chain_layer head tails = Expr-F.Chain (expr head) (map (map_tail expr) tails)
 
 chain_height : (x : Expr) (head : Expr) (tails : List (Tail Expr)) → out-Expr x ≡ Expr-F.Chain head tails → (expr x).height ≡ max (expr head).height (tallest_of tail_height tails) + 1
@@ -222,7 +223,7 @@ chain_view room p x rest r at s = by_form (strong p x.node rest r (least_at POWE
 
     chain : (head : Expr) (tails : List (Tail Expr)) → out-Expr x.node ≡ Expr-F.Chain head tails → Leads (AloneOr TakesTails) NEW room p x rest
     chain head tails e =
-        let m : Reads p (musts (expr_musts (chain_layer head tails)) (expr_row seen_lines (Expr-F.Chain head tails) rest)) = subst (λ (l : Expr-F Seen Seen Seen Seen Seen). Reads p (musts (expr_musts l) (expr_row seen_lines (Expr-F.Chain head tails) rest))) (layer-Chain expr function pattern stmt slot head tails) (at_line p x.node rest (Expr-F.Chain head tails) e r) in
+        let m : Reads p (musts (expr_musts (chain_layer head tails)) (expr_row seen_lines (Expr-F.Chain head tails) rest)) = subst (λ (l : ExprOf Seen). Reads p (musts (expr_musts l) (expr_row seen_lines (Expr-F.Chain head tails) rest))) (layer-Chain seen_views head tails) (at_line p x.node rest (Expr-F.Chain head tails) e r) in
         let h = chain_height x.node head tails e in
         let good = and_parts _ _ m.0 in
         let more = leb-true _ _ good.1 in
@@ -298,7 +299,7 @@ chain_read room less p m n x head tails rolled first behind at more each some di
     read_at (Expr-F.Chain head.node tails.node) x rolled p n
     (λ rest r.
     let b = behind rest r in
-    subst (λ (l : Expr-F Seen Seen Seen Seen Seen). Reads p (musts (expr_musts l) (expr_row seen_lines (Expr-F.Chain head.node tails.node) rest))) (sym (layer-Chain expr function pattern stmt slot head.node tails.node)) (
+    subst (λ (l : ExprOf Seen). Reads p (musts (expr_musts l) (expr_row seen_lines (Expr-F.Chain head.node tails.node) rest))) (sym (layer-Chain seen_views head.node tails.node)) (
       made_stands at.stands (omega (arith, more, at.rank)),
       (
         ap not (empty_seen tails.node ∙ some),

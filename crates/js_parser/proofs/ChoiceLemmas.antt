@@ -5,6 +5,7 @@ use Rattle.std.specs.List.{list_all}
 use Rattle.std.specs.Prelude.{nat_le, Option, Some, None}
 use Rattle.std.specs.Result.{IsErrAnd}
 use Rattle.std.proofs.lemmas.Bool.Decides.{nat_tests, eqb_tells}
+use Rattle.js_tree.specs.declared.lists.Element.{Element}
 use Rattle.js_tree.specs.declared.lists.Arm.{Arm}
 use Rattle.js_tree.specs.declared.lists.Bracket.{Bracket}
 use Rattle.js_tree.specs.declared.lists.Further.{Further}
@@ -130,7 +131,7 @@ assign_view room p x rest r at s = by_layer (out-Expr x.node) refl
     by_update true e = by_rank UPDATE e (omega arith)
     by_update false e = by_rank UNARY e (omega arith)
 
-    by_args : (word : Token) (head : Expr) (tails : List (Tail Expr)) (o : Option (Bracket Expr)) → (expr x.node).rank ≡ expr_rank (expr_layer (Expr-F.New word head tails o)) → Leads AfterTest BINARY room p x rest
+    by_args : (word : Token) (head : Expr) (tails : List (Tail Expr)) (o : Option (Bracket (Element Expr))) → (expr x.node).rank ≡ expr_rank (expr_layer (Expr-F.New word head tails o)) → Leads AfterTest BINARY room p x rest
     by_args word head tails None e = by_rank 18 e (omega arith)
     by_args word head tails (Some a) e = by_rank 19 e (omega arith)
 

@@ -13,40 +13,41 @@ use Rattle.js_parser.proofs.PlaceLemmas.{refuses_on}
 use Rattle.js_parser.proofs.ReadLemmas.{gives, want}
 use Rattle.std.specs.Prelude.{nat_le}
 use Rattle.js_parser.specs.Following.{Stops, rest_level}
+use Rattle.js_parser.specs.Low.{low}
 use Rattle.js_parser.specs.Nodes.{ValueAt, ValueStops, Makes, ReadsExpr, IsListRank, expr_line, value_line}
 use Rattle.js_parser.specs.declared.tall.Value.{Value}
 
 -- the expression as a value
 abbrev pub value_of : Expr → Value
-value_of x = record { node = x; height = (expr x).height; rank = (expr x).rank; is_target = (expr x).is_target }
+value_of x = record { node = x; height = (expr x).height; rank = (expr x).rank; is_target = (expr x).is_target; low = low x }
 
 pub value_at : (level room : ℕ) (x : Expr) → stands level (expr x) ≡ true → (expr x).height ≤ room → ValueAt level room (value_of x)
-value_at level room x good low = record { stands = good; rank = refl; target = refl; height = refl; fits = low }
+value_at level room x good fits = record { stands = good; rank = refl; target = refl; height = refl; fits = fits; low = refl }
 
 -- a value is the expression's
 pub value_is : (level room : ℕ) (x : Value) → ValueAt level room x → value_of x.node ≡ x
-value_is level room x at = λ i. record { node = x.node; height = sym at.height i; rank = sym at.rank i; is_target = sym at.target i }
+value_is level room x at = λ i. record { node = x.node; height = sym at.height i; rank = sym at.rank i; is_target = sym at.target i; low = sym at.low i }
 
 -- but where the head of a `new` is read, an expression rests at its level
 pub rests_at : (level rank : ℕ) → level < NEW → rest_level level rank ≡ level
-rests_at level rank low = ap (λ (b : Bool). if b && (rank == NEW) then CHAIN else level) far
+rests_at level rank less = ap (λ (b : Bool). if b && (rank == NEW) then CHAIN else level) far
   where
     far : (level == NEW) ≡ false
-    far = grind (arith, nat_tests, low)
+    far = grind (arith, nat_tests, less)
 
 pub list_low : (rank : ℕ) → IsListRank rank → rank + 1 < NEW
 list_low rank list = ⊎_elim (λ (z : rank ≡ 0). omega (arith, z)) (λ (b : (BINARY ≤ rank) × (rank < POWER)). omega (arith, b.1)) list
 
 pub rests : (level : ℕ) (x : Value) (rest : List Piece) → level < NEW → Stops level rest → ValueStops level x rest
-rests level x rest low s = subst (λ (n : ℕ). Stops n rest) (sym (rests_at level (expr x.node).rank low)) s
+rests level x rest less s = subst (λ (n : ℕ). Stops n rest) (sym (rests_at level (expr x.node).rank less)) s
 
 pub stops_of : (level : ℕ) (x : Value) (rest : List Piece) → level < NEW → ValueStops level x rest → Stops level rest
-stops_of level x rest low s = subst (λ (n : ℕ). Stops n rest) (rests_at level (expr x.node).rank low) s
+stops_of level x rest less s = subst (λ (n : ℕ). Stops n rest) (rests_at level (expr x.node).rank less) s
 
 -- a value of a level is one of each lower level
 pub at_lower : (level lower room : ℕ) (x : Value) → lower ≤ level → ValueAt level room x → ValueAt lower room x
 at_lower level lower room x less at =
-    record { stands = weaker (expr x.node).is_sound (expr x.node).rank at.stands; rank = at.rank; target = at.target; height = at.height; fits = at.fits }
+    record { stands = weaker (expr x.node).is_sound (expr x.node).rank at.stands; rank = at.rank; target = at.target; height = at.height; fits = at.fits; low = at.low }
   where
     weaker : (sound : Bool) (rank : ℕ) → (sound && nat_le level rank) ≡ true → (sound && nat_le lower rank) ≡ true
     weaker true rank e = grind (arith, nat_tests, e, less)

@@ -2,6 +2,7 @@
 use Rattle.std.proofs.Common.{◌≡◌, ◌⊎◌, ⊎_elim, inl, inr, ℕ, ◌+◌, ◌-◌, ◌<◌, ◌≤◌, max, Bool, true, false, ◌&&◌, ◌||◌, not, List, ◌∷◌, refl, sym, ap, ◌∙◌, subst, arith, true≢false, if◌then◌else◌}
 use Rattle.std.proofs.lemmas.Bool.{and_parts}
 use Rattle.std.specs.Prelude.{nat_le, Option, Some, None}
+use Rattle.js_tree.specs.declared.lists.Element.{Element}
 use Rattle.js_tree.specs.declared.lists.Bracket.{Bracket}
 use Rattle.js_tree.specs.declared.lists.Tail.{Tail}
 use Rattle.js_tree.specs.declared.token.Token.{Token}
@@ -51,7 +52,7 @@ strong p x rest r h = by_layer (out-Expr x) refl
     low : (n : ℕ) → (expr x).rank ≡ n → n < POWER → Strong x
     low n e less = absurd (omega (arith, e, less, at_least POWER (expr x).rank h))
 
-    by_args : (word : Token) (head : Expr) (tails : List (Tail Expr)) (o : Option (Bracket Expr)) → (expr x).rank ≡ expr_rank (expr_layer (Expr-F.New word head tails o)) → Strong x
+    by_args : (word : Token) (head : Expr) (tails : List (Tail Expr)) (o : Option (Bracket (Element Expr))) → (expr x).rank ≡ expr_rank (expr_layer (Expr-F.New word head tails o)) → Strong x
     by_args word head tails None e = IsHigh (ap (nat_le NEW) e)
     by_args word head tails (Some a) e = IsHigh (ap (nat_le NEW) e)
 

@@ -12,16 +12,16 @@ use Rattle.js_tree.specs.declared.tree.Function.{Function, out-Function, roll-Fu
 use Rattle.js_tree.specs.declared.tree.Function.TheVariants as made
 use Rattle.js_tree.specs.declared.tree.Slot.{Slot}
 use Rattle.js_tree.specs.declared.tree.Stmt.{Stmt}
-use Rattle.js_tree.specs.Folds.{FunctionLayer}
+use Rattle.js_tree.specs.Folds.{FunctionOf, FunctionLayer}
 use Rattle.js_tree.specs.Lexing.{Place}
 use Rattle.js_tree.specs.Pieces.{Piece, Tok, Must}
-use Rattle.js_tree.specs.Spelling.{expr, function, pattern, slot, stmt, stmts_height}
+use Rattle.js_tree.specs.Spelling.{seen_views, expr, function, pattern, slot, stmt, stmts_height}
 use Rattle.js_tree.specs.Spelling.Functions.{function_musts, function_name, function_row, parameter_fits}
 use Rattle.js_tree.specs.Spelling.Patterns.{DECLARED}
 use Rattle.js_tree.specs.Spelling.Nodes.{Seen, all_within, musts, pieces, unmarked, stands}
-use Rattle.js_tree.specs.Spelling.Rows.{bracket_row, each_of, element_row, may_mark}
+use Rattle.js_tree.specs.Spelling.Rows.{round_row, each_of, element_row, may_mark}
 use Rattle.js_tree.specs.TokenKinds.{is}
-use Rattle.js_tree.proofs.Folds.{layer-Keyword, map_block, map_bracket}
+use Rattle.js_tree.proofs.Folds.{layer-Keyword, map_block, map_round}
 use Rattle.js_tree.proofs.RowLemmas.{bracket_map, each_map}
 use Rattle.js_tree.proofs.SpellingLemmas.{at-Keyword, function_layer, function_line, seen_lines}
 use Rattle.js_tokens.specs.Pieces.{Reads}
@@ -77,23 +77,23 @@ parameter_view p x rest good r = by_dots x.dots x.value refl good r
 pub parameters_else : BeginsElse parameter_kind kinds.RightParen
 parameters_else room x rest holds after m r t n next read = let v = parameter_view m x rest holds.0 r in no_kind_before (is kinds.RightParen) kinds.Name refl refl v.name rest m v.read t n next read
 
-pub inside_parameters : (room : ℕ) (x : Tall (Bracket Slot)) → ParametersAt room x → EnclosedAt parameter_kind room (enclosed_of x)
+pub inside_parameters : (room : ℕ) (x : Tall (Bracket (Element Slot))) → ParametersAt room x → EnclosedAt parameter_kind room (enclosed_of x)
 inside_parameters = in_brackets slot_line parameter_stands (λ (x : Slot). (slot x).height)
 
-pub parameters_in_brackets : (room : ℕ) (b : Bracket Slot) (height : ℕ) → EnclosedAt parameter_kind room (enclosed_of (record { node = b; height = height })) → ParametersAt room (record { node = b; height = height })
+pub parameters_in_brackets : (room : ℕ) (b : Bracket (Element Slot)) (height : ℕ) → EnclosedAt parameter_kind room (enclosed_of (record { node = b; height = height })) → ParametersAt room (record { node = b; height = height })
 parameters_in_brackets = as_bracket slot_line parameter_stands (λ (x : Slot). (slot x).height)
 
-abbrev pub parameters_height : Bracket Slot → ℕ
+abbrev pub parameters_height : Bracket (Element Slot) → ℕ
 parameters_height b = inside_height parameter_height b.front b.last
 
 -- the height of parameters as the rows have it
-pub parameters_tall : (b : Bracket Slot) → bracket_row unmarked (λ (s : Slot) h. max (slot s).height h) b 0 ≡ parameters_height b
+pub parameters_tall : (b : Bracket (Element Slot)) → round_row unmarked (λ (s : Slot) h. max (slot s).height h) b 0 ≡ parameters_height b
 parameters_tall b = let e = bracket_tall (λ (s : Slot). (slot s).height) b 0 in omega (arith, e)
 
 -- FUNCTIONS
 
 pub data FunctionKind (f : Function) : Type 0 where
-  IsKeyword : (word : Token) (name : Option Token) (params : Bracket Slot) (body : Block Stmt) → f ≡ made.Keyword word name params body → FunctionKind f
+  IsKeyword : (word : Token) (name : Option Token) (params : Bracket (Element Slot)) (body : Block Stmt) → f ≡ made.Keyword word name params body → FunctionKind f
 
 pub function_kind : (f : Function) → FunctionKind f
 function_kind f = by_layer (out-Function f) refl
@@ -101,24 +101,24 @@ function_kind f = by_layer (out-Function f) refl
     by_layer : (l : FunctionLayer) → out-Function f ≡ l → FunctionKind f
     by_layer (Function-F.Keyword word name params body) e = IsKeyword word name params body (sym (roll-out-Function f) ∙ ap roll-Function e ∙ made.rolls-Keyword word name params body)
 
-module _ (f : Function) (word : Token) (name : Option Token) (params : Bracket Slot) (body : Block Stmt) (e : f ≡ made.Keyword word name params body) where
+module _ (f : Function) (word : Token) (name : Option Token) (params : Bracket (Element Slot)) (body : Block Stmt) (e : f ≡ made.Keyword word name params body) where
   layer : out-Function f ≡ Function-F.Keyword word name params body
   layer = ap out-Function e ∙ made.outs-Keyword word name params body
 
   pub name_seen : is_some (function f).name ≡ is_some name
   name_seen = ap (λ (t : Seen). is_some t.name) (at-Keyword f word name params body layer) ∙ by_name name
     where
-      by_name : (o : Option Token) → is_some (function_name (Function-F.Keyword word o (map_bracket slot params) (map_block stmt body))) ≡ is_some o
+      by_name : (o : Option Token) → is_some (function_name (Function-F.Keyword word o (map_round slot params) (map_block stmt body))) ≡ is_some o
       by_name None = refl
       by_name (Some t) = refl
 
-  fits_seen : all_within parameter_fits (map_bracket slot params) ≡ all_within parameter_stands params
+  fits_seen : all_within parameter_fits (map_round slot params) ≡ all_within parameter_stands params
   fits_seen = within_seen parameter_fits slot params
 
   line_seen : (rest : List Piece) → (function f).line rest ≡ Must (all_within parameter_stands params) ∷ Tok word (is kinds.Function) ∷ may_mark pieces kinds.Name name (parameters_line params (block_line body rest))
   line_seen rest =
       function_line f rest ∙ ap (λ (l : FunctionLayer). musts (function_musts (function_layer l)) (function_row seen_lines l rest)) layer
-      ∙ ap (λ (l : Function-F Seen Seen Seen Seen Seen). musts (function_musts l) (function_row seen_lines (Function-F.Keyword word name params body) rest)) (layer-Keyword expr function pattern stmt slot word name params body)
+      ∙ ap (λ (l : FunctionOf Seen). musts (function_musts l) (function_row seen_lines (Function-F.Keyword word name params body) rest)) (layer-Keyword seen_views word name params body)
       ∙ ap (λ (b : Bool). Must b ∷ function_row seen_lines (Function-F.Keyword word name params body) rest) fits_seen
 
   body_tall : (xs : List Stmt) → each_of (λ (x : Stmt) h. max (stmt x).height h) xs 0 ≡ stmts_height xs
@@ -129,7 +129,7 @@ module _ (f : Function) (word : Token) (name : Option Token) (params : Bracket S
   function_tall =
       ap (λ (t : Seen). t.height) (at-Keyword f word name params body layer)
       ∙ bracket_map unmarked (λ (x : Seen) h. max x.height h) slot params (each_of (λ (x : Seen) h. max x.height h) (map stmt body.body) 0)
-      ∙ ap (bracket_row unmarked (λ (s : Slot) h. max (slot s).height h) params) (each_map (λ (x : Seen) h. max x.height h) stmt body.body 0 ∙ body_tall body.body)
+      ∙ ap (round_row unmarked (λ (s : Slot) h. max (slot s).height h) params) (each_map (λ (x : Seen) h. max x.height h) stmt body.body 0 ∙ body_tall body.body)
       ∙ bracket_tall (λ (s : Slot). (slot s).height) params (stmts_height body.body)
 
   -- a function made of parts
@@ -141,7 +141,7 @@ module _ (f : Function) (word : Token) (name : Option Token) (params : Bracket S
 pub record FunctionView (p : Place) (f : Function) (rest : List Piece) : Type 0 where
   pub word : Token
   pub name : Option Token
-  pub params : Bracket Slot
+  pub params : Bracket (Element Slot)
   pub body : Block Stmt
   pub node : f ≡ made.Keyword word name params body
   pub good : all_within parameter_stands params ≡ true

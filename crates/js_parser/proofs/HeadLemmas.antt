@@ -2,6 +2,7 @@
 use Rattle.std.proofs.Common.{◌≡◌, ◌⊎◌, ⊎_elim, ℕ, ◌<◌, ◌≤◌, Bool, true, false, ◌&&◌, not, List, [], ◌∷◌, refl, sym, ap, ◌∙◌, subst, arith, true≢false, if◌then◌else◌}
 use Rattle.std.specs.Prelude.{nat_le, Option}
 use Rattle.std.proofs.lemmas.Bool.Decides.{nat_tests}
+use Rattle.js_tree.specs.declared.lists.Element.{Element}
 use Rattle.js_tree.specs.declared.lists.Bracket.{Bracket}
 use Rattle.js_tree.specs.declared.lists.Tail.{Tail}
 use Rattle.js_tree.specs.declared.lists.Template.{Template}
@@ -48,7 +49,7 @@ pub data Head (x : Expr) : Type 0 where
   IsParen : (begin : Token) (inner : Expr) (end : Token) → out-Expr x ≡ Expr-F.«Expr::Paren» begin inner end → Head x
   IsFun : (f : Function) → out-Expr x ≡ Expr-F.«Expr::Fun» f → Head x
   IsNewTarget : (word dot target : Token) → out-Expr x ≡ Expr-F.NewTarget word dot target → Head x
-  IsNew : (word : Token) (head : Expr) (tails : List (Tail Expr)) (args : Option (Bracket Expr)) → out-Expr x ≡ Expr-F.New word head tails args → Head x
+  IsNew : (word : Token) (head : Expr) (tails : List (Tail Expr)) (args : Option (Bracket (Element Expr))) → out-Expr x ≡ Expr-F.New word head tails args → Head x
 
 pub rank_at : (x : Expr) (l : ExprLayer) → out-Expr x ≡ l → (expr x).rank ≡ expr_rank (expr_layer l)
 rank_at x l e = ap (λ (s : Seen). s.rank) (at_expr x l e)

@@ -4,6 +4,7 @@ use Rattle.std.proofs.lemmas.Bool.{and_parts}
 use Rattle.std.specs.List.{list_all}
 use Rattle.std.specs.Prelude.{nat_le, Option, Some, None}
 use Rattle.std.proofs.lemmas.Bool.Decides.{nat_tests, eqb_tells}
+use Rattle.js_tree.specs.declared.lists.Element.{Element}
 use Rattle.js_tree.specs.declared.lists.Further.{Further}
 use Rattle.js_tree.specs.declared.tree.Expr.{Expr, out-Expr}
 use Rattle.js_tree.specs.declared.tree.Expr.TheOpen.{Expr-F}
@@ -159,7 +160,7 @@ list_view rank room list p x rest at r = by_layer (out-Expr x.node) refl
     by_layer (Expr-F.Chain head tails) e = other 17 (rank_at (Expr-F.Chain head tails) e) (never 17 (λ z. omega (arith, z)) (λ b. omega (arith, b.1)))
     by_layer (Expr-F.New word head tails args) e = by_args args (rank_at (Expr-F.New word head tails args) e)
       where
-        by_args : (o : Option (Bracket Expr)) → (expr x.node).rank ≡ expr_rank (expr_layer (Expr-F.New word head tails o)) → ListView rank p x.node rest ⊎ ValueAt (rank + 1) room x
+        by_args : (o : Option (Bracket (Element Expr))) → (expr x.node).rank ≡ expr_rank (expr_layer (Expr-F.New word head tails o)) → ListView rank p x.node rest ⊎ ValueAt (rank + 1) room x
         by_args None k = other 18 k (never 18 (λ z. omega (arith, z)) (λ b. omega (arith, b.1)))
         by_args (Some a) k = other 19 k (never 19 (λ z. omega (arith, z)) (λ b. omega (arith, b.1)))
     by_layer (Expr-F.«Expr::Name» t) e = other 20 (rank_at (Expr-F.«Expr::Name» t) e) (never 20 (λ z. omega (arith, z)) (λ b. omega (arith, b.1)))

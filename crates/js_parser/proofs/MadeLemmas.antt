@@ -4,12 +4,15 @@ use Rattle.js_tree.specs.declared.tree.Expr.{Expr, out-Expr, roll-Expr, out-roll
 use Rattle.js_tree.specs.Folds.{ExprLayer}
 use Rattle.js_tree.specs.Lexing.{Place}
 use Rattle.js_tree.specs.Pieces.{Piece}
+use Rattle.js_tree.specs.Spelling.{expr}
 use Rattle.js_tree.specs.Spelling.Expressions.{expr_musts, expr_row, expr_rank, expr_sound, expr_target}
 use Rattle.js_tree.specs.Spelling.Nodes.{Seen, musts, highest_of}
 use Rattle.js_tree.specs.TokenKinds.{is}
 use Rattle.js_tree.proofs.SpellingLemmas.{at_expr, expr_layer, expr_line_at, seen_lines}
 use Rattle.js_tokens.specs.Pieces.{Reads, Read}
+use Rattle.js_parser.specs.Low.{low_in, low_layer}
 use Rattle.js_parser.specs.Nodes.{IsSeen, expr_line}
+use Rattle.js_parser.proofs.LowLemmas.{low_at}
 
 -- the layer of a node that was put together
 pub out_of : (l : ExprLayer) (x : Expr) → roll-Expr l ≡ x → out-Expr x ≡ l
@@ -17,14 +20,17 @@ out_of l x is = ap out-Expr (sym is) ∙ out-roll-Expr l
 
 -- what is seen of the node of a layer
 pub seen_at : (l : ExprLayer) (x : Expr) → roll-Expr l ≡ x → (below order : ℕ) (target : Bool) → expr_sound (expr_layer l) ≡ true → order ≡ expr_rank (expr_layer l) → target ≡ expr_target (expr_layer l)
-    → below ≡ expr_row highest_of (expr_layer l) 0 → IsSeen x below order target
-seen_at l x is below order target sound rank is_target height =
+    → below ≡ expr_row highest_of (expr_layer l) 0 → (least : ℕ) → ((f : Expr → ℕ) → low_layer f (below + 1) target l ≡ least) → IsSeen x below order target least
+seen_at l x is below order target sound rank is_target height least lowest =
     let s = sym (at_expr x l (out_of l x is)) in
+    let tall : below + 1 ≡ (expr x).height = ap (λ (n : ℕ). n + 1) height ∙ ap (λ (t : Seen). t.height) s in
+    let goal : target ≡ (expr x).is_target = is_target ∙ ap (λ (t : Seen). t.is_target) s in
     record {
       sound = sym (ap (λ (t : Seen). t.is_sound) s) ∙ sound;
       rank = rank ∙ ap (λ (t : Seen). t.rank) s;
-      target = is_target ∙ ap (λ (t : Seen). t.is_target) s;
-      height = ap (λ n. n + 1) height ∙ ap (λ (t : Seen). t.height) s;
+      target = goal;
+      height = tall;
+      low = sym (low_at x below (sym tall) ∙ (λ i. low_layer (low_in below) (sym tall i) (sym goal i) (out_of l x is i)) ∙ lowest (low_in below));
     }
 
 -- the line of the node of a layer

@@ -4,6 +4,8 @@ use Rattle.std.specs.Prelude.{nat_le, codes, Option, Some, None, is_some}
 use Rattle.std.specs.List.{list_all, list_any}
 use Rattle.std.specs.Str.{bytes_eq}
 use Rattle.std.proofs.lemmas.Bool.{and_parts, leb-true, not-true}
+use Rattle.js_tree.specs.Folds.{ExprOf}
+use Rattle.js_tree.specs.declared.lists.Element.{Element}
 use Rattle.js_tree.specs.declared.lists.Bracket.{Bracket}
 use Rattle.js_tree.specs.declared.lists.Tail.{Tail}
 use Rattle.js_tree.specs.declared.token.Token.{Token}
@@ -13,13 +15,13 @@ use Rattle.js_tree.specs.declared.tree.Expr.{Expr, out-Expr, roll-Expr}
 use Rattle.js_tree.specs.declared.tree.Expr.TheOpen.{Expr-F}
 use Rattle.js_tree.specs.Lexing.{Place}
 use Rattle.js_tree.specs.Pieces.{Piece, Tok}
-use Rattle.js_tree.specs.Spelling.{expr, function, pattern, stmt, slot, tallest_of}
+use Rattle.js_tree.specs.Spelling.{seen_views, expr, function, pattern, stmt, slot, tallest_of}
 use Rattle.js_tree.specs.Spelling.Chains.{is_call}
 use Rattle.js_tree.specs.Spelling.Expressions.{expr_musts, expr_row}
 use Rattle.js_tree.specs.Spelling.Nodes.{Seen, CHAIN, NEW, MADE, musts, pieces, unmarked, stands, is_empty, passes, all_within, seen_line}
-use Rattle.js_tree.specs.Spelling.Rows.{bracket_row, each_of, maybe, tail_row}
+use Rattle.js_tree.specs.Spelling.Rows.{round_row, each_of, maybe, tail_row}
 use Rattle.js_tree.specs.TokenKinds.{is}
-use Rattle.js_tree.proofs.Folds.{map_maybe, map_bracket, map_tail, layer-New}
+use Rattle.js_tree.proofs.Folds.{map_maybe, map_round, map_tail, layer-New}
 use Rattle.js_tree.proofs.KindLemmas.{is_same}
 use Rattle.js_tree.proofs.RowLemmas.{args_map, tails_map}
 use Rattle.js_tree.proofs.SpellingLemmas.{at-New, seen_lines}
@@ -37,11 +39,11 @@ use Rattle.js_parser.specs.declared.tall.Tall.{Tall}
 use Rattle.js_parser.specs.declared.tall.Value.{Value}
 
 -- arguments with their height
-abbrev pub tall_args : Option (Bracket Expr) → Tall (Option (Bracket Expr))
-tall_args o = record { node = o; height = maybe (bracket_row unmarked higher) o 0 }
+abbrev pub tall_args : Option (Bracket (Element Expr)) → Tall (Option (Bracket (Element Expr)))
+tall_args o = record { node = o; height = maybe (round_row unmarked higher) o 0 }
 
 -- what stands behind the head
-abbrev pub behind_head : List (Tail Expr) → Option (Bracket Expr) → List Piece → List Piece
+abbrev pub behind_head : List (Tail Expr) → Option (Bracket (Element Expr)) → List Piece → List Piece
 behind_head tails args rest = tails_line tails (maybe arguments_line args rest)
 
 -- `new.target`
@@ -58,7 +60,7 @@ pub record NewView (room : ℕ) (p : Place) (x : Value) (rest : List Piece) : Ty
   pub word : Token
   pub head : Expr
   pub tails : List (Tail Expr)
-  pub args : Option (Bracket Expr)
+  pub args : Option (Bracket (Element Expr))
   pub layer : out-Expr x.node ≡ Expr-F.New word head tails args
   pub read : Reads p (Tok word (is kinds.New) ∷ expr_line head (behind_head tails args rest))
   pub at : ValueAt NEW (room - 1) (value_of head)
@@ -73,25 +75,25 @@ pub data MadeView (room : ℕ) (p : Place) (x : Value) (rest : List Piece) : Typ
   ATarget : TargetView p x.node rest → MadeView room p x rest
   AMade : NewView room p x rest → MadeView room p x rest
 
-abbrev new_layer : Token → Expr → List (Tail Expr) → Option (Bracket Expr) → Expr-F Seen Seen Seen Seen Seen
-new_layer word head tails args = Expr-F.New word (expr head) (map (map_tail expr) tails) (map_maybe (map_bracket expr) args)
+abbrev new_layer : Token → Expr → List (Tail Expr) → Option (Bracket (Element Expr)) → ExprOf Seen
+new_layer word head tails args = Expr-F.New word (expr head) (map (map_tail expr) tails) (map_maybe (map_round expr) args)
 
-new_height : (x : Expr) (word : Token) (head : Expr) (tails : List (Tail Expr)) (args : Option (Bracket Expr)) → out-Expr x ≡ Expr-F.New word head tails args
-    → (expr x).height ≡ max (expr head).height (max (tallest_of tail_height tails) (maybe (bracket_row unmarked higher) args 0)) + 1
+new_height : (x : Expr) (word : Token) (head : Expr) (tails : List (Tail Expr)) (args : Option (Bracket (Element Expr))) → out-Expr x ≡ Expr-F.New word head tails args
+    → (expr x).height ≡ max (expr head).height (max (tallest_of tail_height tails) (maybe (round_row unmarked higher) args 0)) + 1
 new_height x word head tails args e =
     let put : Seen → ℕ → ℕ = λ u n. max u.height n in
-    let inside : ℕ = maybe (bracket_row unmarked higher) args 0 in
+    let inside : ℕ = maybe (round_row unmarked higher) args 0 in
     let h : (expr x).height ≡ max (expr head).height (each_of (tail_row unmarked higher) tails inside) + 1 = ap (λ (u : Seen). u.height) (at-New x word head tails args e) ∙ ap (λ n. max (expr head).height n + 1) (ap (each_of (tail_row unmarked put) (map (map_tail expr) tails)) (args_map unmarked put expr args 0) ∙ tails_map unmarked put expr tails inside) in
     omega (arith, h, tails_tall tails inside)
 
-new_rank : (x : Expr) (word : Token) (head : Expr) (tails : List (Tail Expr)) (args : Option (Bracket Expr)) → out-Expr x ≡ Expr-F.New word head tails args
+new_rank : (x : Expr) (word : Token) (head : Expr) (tails : List (Tail Expr)) (args : Option (Bracket (Element Expr))) → out-Expr x ≡ Expr-F.New word head tails args
     → (expr x).rank ≡ (if is_some args then MADE else NEW)
 new_rank x word head tails args e = ap (λ (u : Seen). u.rank) (at-New x word head tails args e) ∙ ap (λ b. if b then MADE else NEW) (some_seen args)
 
-new_view : (room : ℕ) (p : Place) (x : Value) (rest : List Piece) (word : Token) (head : Expr) (tails : List (Tail Expr)) (args : Option (Bracket Expr)) → out-Expr x.node ≡ Expr-F.New word head tails args
+new_view : (room : ℕ) (p : Place) (x : Value) (rest : List Piece) (word : Token) (head : Expr) (tails : List (Tail Expr)) (args : Option (Bracket (Element Expr))) → out-Expr x.node ≡ Expr-F.New word head tails args
     → ValueAt NEW room x → ValueStops NEW x rest → Reads p (value_line x rest) → NewView room p x rest
 new_view room p x rest word head tails args e at s r =
-    let m : Reads p (musts (expr_musts (new_layer word head tails args)) (expr_row seen_lines (Expr-F.New word head tails args) rest)) = subst (λ (l : Expr-F Seen Seen Seen Seen Seen). Reads p (musts (expr_musts l) (expr_row seen_lines (Expr-F.New word head tails args) rest))) (layer-New expr function pattern stmt slot word head tails args) (at_line p x.node rest (Expr-F.New word head tails args) e r) in
+    let m : Reads p (musts (expr_musts (new_layer word head tails args)) (expr_row seen_lines (Expr-F.New word head tails args) rest)) = subst (λ (l : ExprOf Seen). Reads p (musts (expr_musts l) (expr_row seen_lines (Expr-F.New word head tails args) rest))) (layer-New seen_views word head tails args) (at_line p x.node rest (Expr-F.New word head tails args) e r) in
     let h = new_height x.node word head tails args e in
     let some = alone (nat_le MADE (expr head).rank) refl (sym (λ i. nat_le MADE (expr head).rank || (empty_seen tails i && not (some_seen args i))) ∙ m.1.0) in
     let each : list_all tail_stands tails ≡ true = sym (tails_seen tails) ∙ m.1.1.1.0 in
@@ -113,7 +115,7 @@ new_view room p x rest word head tails args e at s r =
     }
   where
     none_given : args ≡ None → Stops CHAIN rest
-    none_given z = subst (λ (n : ℕ). Stops (rest_level NEW n) rest) (new_rank x.node word head tails args e ∙ ap (λ (o : Option (Bracket Expr)). if is_some o then MADE else NEW) z) s
+    none_given z = subst (λ (n : ℕ). Stops (rest_level NEW n) rest) (new_rank x.node word head tails args e ∙ ap (λ (o : Option (Bracket (Element Expr))). if is_some o then MADE else NEW) z) s
 
     alone : (b : Bool) → nat_le MADE (expr head).rank ≡ b → (b || (is_empty tails && not (is_some args))) ≡ true → (MADE ≤ (expr head).rank) ⊎ (tails ≡ []) × (args ≡ None)
     alone true k h = inl (leb-true _ _ k)
@@ -123,7 +125,7 @@ new_view room p x rest word head tails args e at s r =
         empty [] h = refl
         empty (t ∷ ts) h = absurd (true≢false (sym h))
 
-        absent : (o : Option (Bracket Expr)) → not (is_some o) ≡ true → o ≡ None
+        absent : (o : Option (Bracket (Element Expr))) → not (is_some o) ≡ true → o ≡ None
         absent None h = refl
         absent (Some b) h = absurd (true≢false (sym h))
 
@@ -131,17 +133,17 @@ new_view room p x rest word head tails args e at s r =
     head_stops (inl more) = stops_made (expr head).rank (behind_head tails args rest) more
     head_stops (inr z) = subst (λ (ps : List Piece). Stops (rest_level NEW (expr head).rank) ps) (λ i. behind_head (sym z.0 i) (sym z.1 i) rest) (stops_head (expr head).rank rest (none_given z.1))
 
-    tails_end : (o : Option (Bracket Expr)) → args ≡ o → NoKind (begins_tail false) (maybe arguments_line o rest)
+    tails_end : (o : Option (Bracket (Element Expr))) → args ≡ o → NoKind (begins_tail false) (maybe arguments_line o rest)
     tails_end None z = no_tail false rest (none_given z)
     tails_end (Some b) z = no_kind_before (begins_tail false) kinds.LeftParen refl refl b.«open» _
 
-    args_end : (o : Option (Bracket Expr)) → args ≡ o → NoArguments (tall_args o) rest
+    args_end : (o : Option (Bracket (Element Expr))) → args ≡ o → NoArguments (tall_args o) rest
     args_end None z none = no_arguments rest (none_given z)
     args_end (Some b) z none = absurd (true≢false none)
 
 -- what is put together, as it is seen and as it is read
-pub new_seen : (x : Expr) (word : Token) (head : Expr) (tails : List (Tail Expr)) (args : Option (Bracket Expr)) → roll-Expr (Expr-F.New word head tails args) ≡ x → (below order : ℕ)
-    → below ≡ max (expr head).height (max (tallest_of tail_height tails) (maybe (bracket_row unmarked higher) args 0)) → order ≡ (if is_some args then MADE else NEW) → IsSeen x below order false
+pub new_seen : (x : Expr) (word : Token) (head : Expr) (tails : List (Tail Expr)) (args : Option (Bracket (Element Expr))) → roll-Expr (Expr-F.New word head tails args) ≡ x → (below order : ℕ)
+    → below ≡ max (expr head).height (max (tallest_of tail_height tails) (maybe (round_row unmarked higher) args 0)) → order ≡ (if is_some args then MADE else NEW) → IsSeen x below order false
 new_seen x word head tails args rolled below order height rank =
     let e = out_of (Expr-F.New word head tails args) x rolled in
     let s = at-New x word head tails args e in
@@ -152,7 +154,7 @@ new_seen x word head tails args rolled below order height rank =
       height = ap (λ n. n + 1) height ∙ sym (new_height x word head tails args e);
     }
 
-pub new_read : (p m : Place) (x : Expr) (word : Token) (head : Expr) (tails : List (Tail Expr)) (args : Option (Bracket Expr)) → roll-Expr (Expr-F.New word head tails args) ≡ x
+pub new_read : (p m : Place) (x : Expr) (word : Token) (head : Expr) (tails : List (Tail Expr)) (args : Option (Bracket (Element Expr))) → roll-Expr (Expr-F.New word head tails args) ≡ x
     → Read p (λ rest. Tok word (is kinds.New) ∷ expr_line head (behind_head tails args rest)) m
     → stands NEW (expr head) ≡ true → (nat_le MADE (expr head).rank || (is_empty tails && not (is_some args))) ≡ true → list_all (λ t. tail_stands t && may_call false t) tails ≡ true
     → passes (all_within argument_stands) args ≡ true → Read p (expr_line x) m
@@ -161,7 +163,7 @@ new_read p m x word head tails args rolled read good alone each given =
     (λ rest r.
     let f = none_may tails each in
     let b = read rest r in
-    subst (λ (l : Expr-F Seen Seen Seen Seen Seen). Reads p (musts (expr_musts l) (expr_row seen_lines (Expr-F.New word head tails args) rest))) (sym (layer-New expr function pattern stmt slot word head tails args)) (
+    subst (λ (l : ExprOf Seen). Reads p (musts (expr_musts l) (expr_row seen_lines (Expr-F.New word head tails args) rest))) (sym (layer-New seen_views word head tails args)) (
       good,
       (
         (λ i. nat_le MADE (expr head).rank || (empty_seen tails i && not (some_seen args i))) ∙ alone,
@@ -179,7 +181,7 @@ new_read p m x word head tails args rolled read good alone each given =
     ))
 
 -- two with the same parts are one
-pub same_new : (x made : Expr) (word word' : Token) (head head' : Expr) (tails tails' : List (Tail Expr)) (args args' : Option (Bracket Expr)) → roll-Expr (Expr-F.New word head tails args) ≡ made
+pub same_new : (x made : Expr) (word word' : Token) (head head' : Expr) (tails tails' : List (Tail Expr)) (args args' : Option (Bracket (Element Expr))) → roll-Expr (Expr-F.New word head tails args) ≡ made
     → out-Expr x ≡ Expr-F.New word' head' tails' args' → word ≡ word' → head ≡ head' → tails ≡ tails' → args ≡ args' → made ≡ x
 same_new x made word word' head head' tails tails' args args' rolled layer w h t a = sym rolled ∙ (λ i. roll-Expr (Expr-F.New (w i) (h i) (t i) (a i))) ∙ node_of x (Expr-F.New word' head' tails' args') layer
 
@@ -198,11 +200,11 @@ made_view room p x rest next at s r = let h = head_of p x.node rest r (and_parts
     by_head (IsNew word head tails args e) k = AMade (new_view room p x rest word head tails args e at s r)
 
 -- behind a `new` without arguments no tails and no arguments stand
-pub bare : (head : Expr) (tails : List (Tail Expr)) (args : Option (Bracket Expr)) → (expr head).rank < MADE → (MADE ≤ (expr head).rank) ⊎ (tails ≡ []) × (args ≡ None) → (tails ≡ []) × (args ≡ None)
+pub bare : (head : Expr) (tails : List (Tail Expr)) (args : Option (Bracket (Element Expr))) → (expr head).rank < MADE → (MADE ≤ (expr head).rank) ⊎ (tails ≡ []) × (args ≡ None) → (tails ≡ []) × (args ≡ None)
 bare head tails args less (inl more) = absurd (omega (arith, less, more))
 bare head tails args less (inr z) = z
 
-pub bare_read : (p : Place) (tails : List (Tail Expr)) (args : Option (Bracket Expr)) (rest : List Piece) → (tails ≡ []) × (args ≡ None) → Reads p (behind_head tails args rest) → Reads p rest
+pub bare_read : (p : Place) (tails : List (Tail Expr)) (args : Option (Bracket (Element Expr))) (rest : List Piece) → (tails ≡ []) × (args ≡ None) → Reads p (behind_head tails args rest) → Reads p rest
 bare_read p tails args rest z r = subst (λ (ps : List Piece). Reads p ps) (λ i. behind_head (z.0 i) (z.1 i) rest) r
 
 -- what `new` makes is of the level of a head

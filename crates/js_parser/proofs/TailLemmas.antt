@@ -5,6 +5,7 @@ use Rattle.std.specs.List.{list_all}
 use Rattle.std.specs.Prelude.{codes}
 use Rattle.std.specs.Str.{bytes_eq}
 use Rattle.std.proofs.lemmas.Slice.Eq.{bytes_eq-Decides}
+use Rattle.js_tree.specs.declared.lists.Element.{Element}
 use Rattle.js_tree.specs.Lexical.{Next}
 use Rattle.js_tree.specs.Lexing.{Place}
 use Rattle.js_tree.specs.Operators.{is_member_name}
@@ -76,7 +77,7 @@ as_index (tail.Template t) (inl h) = absurd (let e : kinds.LeftBracket ≡ kinds
 as_index (tail.Template t) (inr h) = absurd (let e : kinds.LeftBracket ≡ kinds.TemplateHead = h in cc)
 
 -- a tail that begins with `(` is arguments
-pub as_call : (t : Tail Expr) → begins t kinds.LeftParen → (b : Bracket Expr) × (t ≡ tail.Call b)
+pub as_call : (t : Tail Expr) → begins t kinds.LeftParen → (b : Bracket (Element Expr)) × (t ≡ tail.Call b)
 as_call (tail.Call b) h = (b, refl)
 as_call (tail.Member dot name) h = absurd (let e : kinds.LeftParen ≡ kinds.Dot = h in cc)
 as_call (tail.Index begin value end) h = absurd (let e : kinds.LeftParen ≡ kinds.LeftBracket = h in cc)
@@ -92,7 +93,7 @@ as_template (tail.Call b) k h dot bracket paren = absurd (paren h)
 
 -- a tail that stands where `(` is told, as arguments
 pub record CallView (room : ℕ) (p : Place) (x : Tall (Tail Expr)) (rest : List Piece) : Type 0 where
-  pub args : Bracket Expr
+  pub args : Bracket (Element Expr)
   pub node : x.node ≡ tail.Call args
   pub read : Reads p (arguments_line args rest)
   pub at : ArgumentsAt room (record { node = args; height = x.height })

@@ -1,3 +1,4 @@
+use Rattle.js_tree.specs.declared.lists.Element.{Element}
 use Rattle.js_tree.specs.declared.lists.Bracket.{Bracket}
 use Rattle.js_tree.specs.declared.tree.Expr.{Expr}
 use Rattle.js_parser.proofs.BracketLemmas.{closes_paren, enclosed_of, opens_paren}
@@ -19,7 +20,7 @@ pub returns : goal.returns
 returns g c =
     let u = c.in_ok-all.ensures.reads in
     let a = c.in_ok-all.field-0.node in
-    let b : Bracket Expr = record { «open» = a.left; front = a.inside.front; last = a.inside.last; close = a.right } in
+    let b : Bracket (Element Expr) = record { «open» = a.left; front = a.inside.front; last = a.inside.last; close = a.right } in
     record {
       reads = record {
         found = (u.found.0, arguments_in_brackets _ b c.in_ok-all.field-0.height u.found.1);

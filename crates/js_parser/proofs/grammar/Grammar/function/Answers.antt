@@ -1,4 +1,5 @@
 use Rattle.std.proofs.Common.{◌≡◌, ℕ, refl, sym, ap, ◌∙◌, arith, List}
+use Rattle.js_tree.specs.declared.lists.Element.{Element}
 use Rattle.js_tree.specs.Pieces.{Piece, Onto}
 use Rattle.js_tree.specs.Spelling.{stmts_height}
 use Rattle.js_tree.specs.Spelling.Nodes.{pieces}
@@ -19,7 +20,7 @@ use Rattle.js_parser.specs.Nodes.{BlockAt, FunctionAt, NoMark, ParametersAt, blo
 use Rattle.js_parser.specs.declared.tall.Tall.{Tall}
 use Rattle.js_parser.proofs.grammar.Grammar.function.Goals as goal
 
-abbrev tall_params : Bracket Slot → Tall (Bracket Slot)
+abbrev tall_params : Bracket (Element Slot) → Tall (Bracket (Element Slot))
 tall_params b = record { node = b; height = parameters_height b }
 
 abbrev tall_body : Block Stmt → Tall (Block Stmt)
@@ -102,7 +103,7 @@ returns g c = record {
         let g1 = c.in_ok-name.ensures.reads.only v.name (behind_name v rest) g0.1 tt (no_name _ x.node rest v) in
         let g2 = c.in_ok-params.ensures.reads.only (tall_params v.params) (behind_params v rest) g1.1 (params_at _ _ x rest v at) tt in
         let g3 = c.in_ok-body.ensures.reads.only (tall_body v.body) rest g2.1 (body_at _ _ x rest v at) tt in
-        let a : c.in_ok-params.params.height ≡ parameters_height v.params = ap (λ (t : Tall (Bracket Slot)). t.height) g2.0 in
+        let a : c.in_ok-params.params.height ≡ parameters_height v.params = ap (λ (t : Tall (Bracket (Element Slot))). t.height) g2.0 in
         let b : c.in_ok-body.body.height ≡ stmts_height v.body.body = ap (λ (t : Tall (Block Stmt)). t.height) g3.0 in
         let h : c.higher.result ≡ x.height = omega (arith, a, b, v.height, at.height, c.higher.ensures) in
         let n : made.Keyword c.in_ok-word.word c.in_ok-name.name c.in_ok-params.params.node c.in_ok-body.body.node ≡ x.node =

@@ -1,6 +1,7 @@
 use Rattle.std.proofs.Common.{◌≡◌, refl, sym, ap, ◌∙◌, subst, arith, Option, Some, true}
+use Rattle.js_tree.specs.declared.lists.Element.{Element}
 use Rattle.js_tree.specs.Spelling.Nodes.{all_within, unmarked}
-use Rattle.js_tree.specs.Spelling.Rows.{bracket_row, maybe}
+use Rattle.js_tree.specs.Spelling.Rows.{round_row, maybe}
 use Rattle.js_tree.specs.declared.lists.Bracket.{Bracket}
 use Rattle.js_tree.specs.declared.tree.Expr.{Expr}
 use Rattle.js_tokens.specs.Pieces.{Reads}
@@ -17,7 +18,7 @@ returns-then-not-are_same g c = record {
     only = λ x rest r at s.
         let e = arguments_none _ _ c.kind.ensures (sym c.are_same.ensures ∙ c.if-not-are_same.true) x.node rest r in
         let h : 0 ≡ x.height = sym (at.height ∙ ap maybe_tall e) in
-        ((λ i. record { node = sym e i; height = h i }), subst (λ (o : Option (Bracket Expr)). Reads c.args.reader.now (maybe arguments_line o rest)) e r);
+        ((λ i. record { node = sym e i; height = h i }), subst (λ (o : Option (Bracket (Element Expr))). Reads c.args.reader.now (maybe arguments_line o rest)) e r);
     moves = passes_none _;
     shorter = omega arith;
   };
@@ -38,9 +39,9 @@ returns g c =
     record {
       reads = record {
         found = (
-          λ rest r. subst (λ (d : Bracket Expr). Reads c.args.reader.now (arguments_line d rest)) (sym boxed) (c.in_ok-node.ensures.reads.found.0 rest r),
+          λ rest r. subst (λ (d : Bracket (Element Expr)). Reads c.args.reader.now (arguments_line d rest)) (sym boxed) (c.in_ok-node.ensures.reads.found.0 rest r),
           let w = c.in_ok-node.ensures.reads.found.1 in
-              record { each = subst (λ (d : Bracket Expr). all_within argument_stands d ≡ true) (sym boxed) w.each; height = w.height ∙ sym (ap (λ (d : Bracket Expr). bracket_row unmarked higher d 0) boxed); fits = w.fits },
+              record { each = subst (λ (d : Bracket (Element Expr)). all_within argument_stands d ≡ true) (sym boxed) w.each; height = w.height ∙ sym (ap (λ (d : Bracket (Element Expr)). round_row unmarked higher d 0) boxed); fits = w.fits },
         );
         only = λ x rest r at s.
             let v = arguments_some _ _ c.kind.ensures (sym c.are_same.ensures ∙ c.if-not-are_same.false) x rest s r in
