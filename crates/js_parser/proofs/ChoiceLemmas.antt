@@ -410,10 +410,10 @@ module _ (room : ℕ) (head : Value) (m : Place) (arms : List (Arm Expr)) (test 
 
 -- THE NODE
 
-pub cond_seen : (arms : List (Arm Expr)) (last x : Expr) (below : ℕ) → roll-Expr (Expr-F.Cond arms last) ≡ x → below ≡ max (tallest_of arm_height arms) (expr last).height → IsSeen x below COND false
+pub cond_seen : (arms : List (Arm Expr)) (last x : Expr) (below : ℕ) → roll-Expr (Expr-F.Cond arms last) ≡ x → below ≡ max (tallest_of arm_height arms) (expr last).height → IsSeen x below COND false 0
 cond_seen arms last x below rolls is =
     let h : below ≡ each_of (arm_row unmarked (λ (s : Seen) h. max s.height h)) (seen_arms arms) (max (expr last).height 0) = omega (arith, is, arms_tall arms (max (expr last).height 0)) in
-    seen_at (Expr-F.Cond arms last) x rolls below COND false refl refl refl h
+    seen_at (Expr-F.Cond arms last) x rolls below COND false refl refl refl h 0 refl
 
 pub cond_read : (arms : List (Arm Expr)) (last x : Expr) → roll-Expr (Expr-F.Cond arms last) ≡ x → is_empty arms ≡ false → list_all arm_stands arms ≡ true → stands ASSIGN (expr last) ≡ true
     → ((expr last).rank ≡ COND → ⊥) → (p n : Place) → ((rest : List Piece) → Reads n rest → Reads p (each_of arm_line arms (expr_line last rest))) → Read p (expr_line x) n

@@ -64,24 +64,24 @@ module _ (rank : ℕ) (first : Expr) (others : List (Further Expr)) where
 
     -- what is seen of it
     pub list_seen : (below : ℕ) → stands (rank + 1) (expr first) ≡ true → list_all (further_stands rank) others ≡ true → is_empty others ≡ false
-        → below ≡ max (expr first).height (further_height others) → IsSeen x below rank false
+        → below ≡ max (expr first).height (further_height others) → IsSeen x below rank false 0
     list_seen below good each some high = ⊎_elim comma binary list
       where
-        comma : rank ≡ 0 → IsSeen x below rank false
-        comma z = subst (λ (n : ℕ). IsSeen x below n false) (sym z)
+        comma : rank ≡ 0 → IsSeen x below rank false 0
+        comma z = subst (λ (n : ℕ). IsSeen x below n false 0) (sym z)
             (seen_at (Expr-F.Comma first others) x (node_of x (Expr-F.Comma first others) (is ∙ as_comma z)) below 0 false
             (three (stands ASSIGN (expr first)) (not (is_empty (seen_others others))) (all_further (stands ASSIGN) (seen_others others)) (subst (λ (n : ℕ). stands (n + 1) (expr first) ≡ true) z good) (ap not (empty_seen others ∙ some)) (all_seen 0 others ∙ subst (λ (n : ℕ). list_all (further_stands n) others ≡ true) z each))
-            refl refl (high ∙ ap (max (expr first).height) (sym (height_seen (is_kind kinds.Comma) others))))
+            refl refl (high ∙ ap (max (expr first).height) (sym (height_seen (is_kind kinds.Comma) others))) 0 refl)
           where
             three : (a b c : Bool) → a ≡ true → b ≡ true → c ≡ true → (a && b && c) ≡ true
             three a b c e f g = ap (λ (d : Bool). d && b && c) e ∙ ap (λ (d : Bool). d && c) f ∙ g
 
-        binary : (BINARY ≤ rank) × (rank < POWER) → IsSeen x below rank false
+        binary : (BINARY ≤ rank) × (rank < POWER) → IsSeen x below rank false 0
         binary b =
             let same : binary_rank (rank - 2) ≡ rank = omega (arith, b.0) in
-            subst (λ (n : ℕ). IsSeen x below n false) same
+            subst (λ (n : ℕ). IsSeen x below n false 0) same
             (seen_at (Expr-F.Binary (rank - 2) first others) x (node_of x (Expr-F.Binary (rank - 2) first others) (is ∙ as_binary b.0)) below (binary_rank (rank - 2)) false
-            refl refl refl (high ∙ ap (max (expr first).height) (sym (height_seen (is_binary (rank - 2)) others))))
+            refl refl refl (high ∙ ap (max (expr first).height) (sym (height_seen (is_binary (rank - 2)) others))) 0 refl)
 
     -- its line
     pub list_read : (p n : Place) → stands (rank + 1) (expr first) ≡ true → list_all (further_stands rank) others ≡ true → is_empty others ≡ false

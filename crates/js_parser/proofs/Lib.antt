@@ -14,6 +14,7 @@ pub mod JoinLemmas
 pub mod LeadLemmas
 pub mod ListLemmas
 pub mod ListedLemmas
+pub mod LowLemmas
 pub mod MadeLemmas
 pub mod NewLemmas
 pub mod OperandLemmas

@@ -42,7 +42,7 @@ returns-in_err-node g c = record {
 pub value-requires : goal.value-requires
 value-requires g c =
     let h : (function c.in_ok-function.function).height ≡ (function c.in_ok-node.field-0.node).height = ap (λ (f : Function). (function f).height) c.in_ok-function.ensures in
-    record { seen = seen_at (Expr-F.«Expr::Fun» c.in_ok-function.function) _ (rolls-Fun c.in_ok-function.function) _ 20 false refl refl refl (omega (arith, h, c.in_ok-node.ensures.reads.found.1.height)) }
+    record { seen = seen_at (Expr-F.«Expr::Fun» c.in_ok-function.function) _ (rolls-Fun c.in_ok-function.function) _ 20 false refl refl refl (omega (arith, h, c.in_ok-node.ensures.reads.found.1.height)) 0 refl }
 
 pub returns : goal.returns
 returns g c = record {

@@ -20,7 +20,7 @@ returns-in_err-token g c = record {
 }
 
 pub value-requires : goal.value-requires
-value-requires g c = record { seen = seen_at (Expr-F.Literal c.in_ok-token.token) _ (rolls-Literal c.in_ok-token.token) 0 20 false refl refl refl refl }
+value-requires g c = record { seen = seen_at (Expr-F.Literal c.in_ok-token.token) _ (rolls-Literal c.in_ok-token.token) 0 20 false refl refl refl refl 0 refl }
 
 pub returns : goal.returns
 returns g c = record {

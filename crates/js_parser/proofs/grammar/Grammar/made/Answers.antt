@@ -53,7 +53,7 @@ returns-in_err-target g c = record {
 }
 
 pub value-requires : goal.value-requires
-value-requires g c = record { seen = seen_at (Expr-F.NewTarget c.in_ok-word.word c.in_ok-dot.dot c.in_ok-target.target) _ (rolls-NewTarget c.in_ok-word.word c.in_ok-dot.dot c.in_ok-target.target) 0 20 false refl refl refl refl }
+value-requires g c = record { seen = seen_at (Expr-F.NewTarget c.in_ok-word.word c.in_ok-dot.dot c.in_ok-target.target) _ (rolls-NewTarget c.in_ok-word.word c.in_ok-dot.dot c.in_ok-target.target) 0 20 false refl refl refl refl 0 refl }
 
 pub returns-in_err-head : goal.returns-in_err-head
 returns-in_err-head g c = record {

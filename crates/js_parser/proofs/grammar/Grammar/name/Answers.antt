@@ -21,7 +21,7 @@ returns-in_err-name g c = record {
 }
 
 pub value-requires : goal.value-requires
-value-requires g c = record { seen = seen_at (Expr-F.«Expr::Name» c.in_ok-name.name) _ (rolls-Name c.in_ok-name.name) 0 20 true refl refl refl refl }
+value-requires g c = record { seen = seen_at (Expr-F.«Expr::Name» c.in_ok-name.name) _ (rolls-Name c.in_ok-name.name) 0 20 true refl refl refl refl 1 refl }
 
 pub returns : goal.returns
 returns g c = record {

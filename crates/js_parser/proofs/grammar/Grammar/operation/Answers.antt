@@ -57,7 +57,7 @@ value-requires g c =
     let same : c.is_update-updates.result ≡ is_update (kind_of c.in_ok-op.op) = c.is_update-updates.ensures ∙ ap is_update (sym (told _ _ _ _ c.kind.ensures op.0 op.1)) in
     record {
       seen = seen_at (Expr-F.Unary c.in_ok-op.op c.in_ok-operand.operand.node) _ (rolls-Unary c.in_ok-op.op c.in_ok-operand.operand.node) _ _ _ refl
-          (c.rank_of-rank.ensures ∙ ap (λ (b : Bool). if b then UPDATE else UNARY) same) refl (omega (arith, w.height));
+          (c.rank_of-rank.ensures ∙ ap (λ (b : Bool). if b then UPDATE else UNARY) same) refl (omega (arith, w.height)) 0 refl;
     }
 
 pub returns : goal.returns

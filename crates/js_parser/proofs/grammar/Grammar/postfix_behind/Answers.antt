@@ -31,7 +31,7 @@ returns-in_err-op g c = record {
 }
 
 pub value-requires : goal.value-requires
-value-requires g c = record { seen = seen_at (Expr-F.Postfix c.args.first.node c.in_ok-op.op) _ (rolls-Postfix c.args.first.node c.in_ok-op.op) _ 16 _ refl refl refl (omega (arith, c.requires.first.height)) }
+value-requires g c = record { seen = seen_at (Expr-F.Postfix c.args.first.node c.in_ok-op.op) _ (rolls-Postfix c.args.first.node c.in_ok-op.op) _ 16 _ refl refl refl (omega (arith, c.requires.first.height)) 0 refl }
 
 pub returns : goal.returns
 returns g c =

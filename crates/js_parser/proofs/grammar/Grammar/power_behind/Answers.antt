@@ -47,7 +47,7 @@ value-requires g c =
     let u = c.in_ok-exponent.ensures.reads.found.1 in
     record {
       seen = seen_at (Expr-F.Power c.args.base.node c.in_ok-op.op c.in_ok-exponent.exponent.node) _ (rolls-Power c.args.base.node c.in_ok-op.op c.in_ok-exponent.exponent.node) _ 13 _ refl refl refl
-          (omega (arith, c.requires.first.height, u.height, c.higher-below.ensures));
+          (omega (arith, c.requires.first.height, u.height, c.higher-below.ensures)) 0 refl;
     }
 
 pub returns : goal.returns

@@ -51,7 +51,7 @@ returns-in_err-node g c = record {
 }
 
 pub value-requires : goal.value-requires
-value-requires g c = record { seen = seen_at (Expr-F.Template c.in_ok-node.field-0.node) _ (rolls-Template c.in_ok-node.field-0.node) _ 20 false refl refl refl (template_tall _ _ c.in_ok-node.ensures.reads.found.1) }
+value-requires g c = record { seen = seen_at (Expr-F.Template c.in_ok-node.field-0.node) _ (rolls-Template c.in_ok-node.field-0.node) _ 20 false refl refl refl (template_tall _ _ c.in_ok-node.ensures.reads.found.1) 0 refl }
 
 pub returns : goal.returns
 returns g c = record {

@@ -21,7 +21,7 @@ returns-in_err-word g c = record {
 }
 
 pub value-requires : goal.value-requires
-value-requires g c = record { seen = seen_at (Expr-F.This c.in_ok-word.word) _ (rolls-This c.in_ok-word.word) 0 20 false refl refl refl refl }
+value-requires g c = record { seen = seen_at (Expr-F.This c.in_ok-word.word) _ (rolls-This c.in_ok-word.word) 0 20 false refl refl refl refl 0 refl }
 
 pub returns : goal.returns
 returns g c = record {
