@@ -240,11 +240,11 @@ all_fit a true c d e f g = ap (λ (x : Bool). x && true && d) e ∙ g
 all_fit a false c d e f g = ap (λ (x : Bool). x && c && d) e ∙ ap (λ (x : Bool). x && d) f ∙ g
 
 pub assign_seen : (head : Expr) (target : Pattern) (op : Token) (given x : Expr) (below : ℕ) → roll-Expr (Expr-F.Assign target op given) ≡ x → Covers head target → stands ASSIGN (expr given) ≡ true
-    → below ≡ max (pattern target).height (expr given).height → IsSeen x below ASSIGN false
+    → below ≡ max (pattern target).height (expr given).height → IsSeen x below ASSIGN false below
 assign_seen head target op given x below rolls covers good is =
     let a = alike head target covers in
     seen_at (Expr-F.Assign target op given) x rolls below ASSIGN false
-    (all_fit (pattern target).is_sound (is_kind kinds.Assign (kind_of op)) (pattern target).is_target (stands ASSIGN (expr given)) a.sound a.place good) refl refl (omega (arith, is))
+    (all_fit (pattern target).is_sound (is_kind kinds.Assign (kind_of op)) (pattern target).is_target (stands ASSIGN (expr given)) a.sound a.place good) refl refl (omega (arith, is)) below (sym is)
 
 -- the line of what is assigned begins with the target's
 pub assign_read : (head : Expr) (target : Pattern) (op : Token) (given x : Expr) → roll-Expr (Expr-F.Assign target op given) ≡ x → Covers head target → (p n : Place)
@@ -326,7 +326,7 @@ given_at room head x behind rest w at =
 pub above_cond : (room : ℕ) (x : Value) → ValueAt BINARY room x → (expr x.node).rank ≡ COND → ⊥
 above_cond room x at e = omega (arith, e, at_least BINARY (expr x.node).rank (and_parts _ _ at.stands).1)
 
-pub made_other : (room order : ℕ) (x : Expr) (p : Place) (result : Result Value TokenFault) → Makes ASSIGN room x p result → IsSeen x order ASSIGN false → IfOk result (λ v. (expr v.node).rank ≡ COND → ⊥)
+pub made_other : (room order : ℕ) (x : Expr) (p : Place) (result : Result Value TokenFault) → Makes ASSIGN room x p result → IsSeen x order ASSIGN false order → IfOk result (λ v. (expr v.node).rank ≡ COND → ⊥)
 made_other room order x p (Ok v) makes seen = λ e. omega (arith, e, seen.rank, ap (λ (y : Expr). (expr y).rank) makes.found.0)
 made_other room order x p (Err d) makes seen = tt
 

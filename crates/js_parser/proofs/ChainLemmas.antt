@@ -33,6 +33,7 @@ use Rattle.js_tokens.specs.declared.goal.Goal.TheVariants as goal
 use Rattle.js_parser.proofs.BeginLemmas.{next_of}
 use Rattle.js_parser.proofs.BracketLemmas.{bracket_tall, within_seen}
 use Rattle.js_parser.proofs.ExprLemmas.{node_of, value_of, value_at}
+use Rattle.js_parser.proofs.LowLemmas.{low_of}
 use Rattle.js_parser.proofs.FormLemmas.{Strong, IsPower, IsUnary, IsPostfix, IsChain, IsHigh, below, rank-Unary, strong}
 use Rattle.js_parser.proofs.HeadLemmas.{at_line, rank_at}
 use Rattle.js_parser.proofs.LeadLemmas.{Leads, Views, at_higher, at_least, least_at}
@@ -281,15 +282,19 @@ has_tails room head x behind rest m (With w) at s r =
     }
 
 -- a chain that is put together, as it is seen and as it is read
-pub chain_seen : (x : Expr) (head : Expr) (tails : List (Tail Expr)) → roll-Expr (Expr-F.Chain head tails) ≡ x → (below : ℕ) (target : Bool) → below ≡ max (expr head).height (tallest_of tail_height tails) → target ≡ (expr x).is_target → IsSeen x below CHAIN target
-chain_seen x head tails rolled below target height is_target =
+pub chain_seen : (x : Expr) (head : Expr) (tails : List (Tail Expr)) → roll-Expr (Expr-F.Chain head tails) ≡ x → (below : ℕ) (target : Bool) → below ≡ max (expr head).height (tallest_of tail_height tails) → target ≡ (expr x).is_target
+    → (least : ℕ) → least ≡ (if target then below + 2 else 0) → IsSeen x below CHAIN target least
+chain_seen x head tails rolled below target height is_target least is_least =
     let e = out_of (Expr-F.Chain head tails) x rolled in
     let s = at-Chain x head tails e in
+    let tall : below + 1 ≡ (expr x).height = ap (λ (n : ℕ). n + 1) height ∙ sym (chain_height x head tails e) in
+    let more : below + 1 + 1 ≡ below + 2 = omega arith in
     record {
       sound = ap (λ (u : Seen). u.is_sound) s;
       rank = sym (ap (λ (u : Seen). u.rank) s);
       target = is_target;
-      height = ap (λ n. n + 1) height ∙ sym (chain_height x head tails e);
+      height = tall;
+      low = low_of x (Expr-F.Chain head tails) e below target tall is_target least (ap (λ (n : ℕ). if target then n else 0) more ∙ sym is_least);
     }
 
 pub chain_read : (room less : ℕ) (p m n : Place) (x : Expr) (head : Value) (tails : Tall (List (Tail Expr))) → roll-Expr (Expr-F.Chain head.node tails.node) ≡ x → Read p (value_line head) m → Read m (tails_line tails.node) n

@@ -30,6 +30,7 @@ use Rattle.js_tokens.specs.Pieces.{Read, Reads}
 use Rattle.js_parser.proofs.BeginLemmas.{begins_expr, expr_told, no_kind_before, other_told}
 use Rattle.js_parser.proofs.ChainLemmas.{any_seen, args_seen, empty_seen, may_none, no_arguments, no_tail, none_may, some_seen, stops_head, stops_made, tails_seen, tails_tall, tall_tails}
 use Rattle.js_parser.proofs.ExprLemmas.{node_of, value_of, value_at}
+use Rattle.js_parser.proofs.LowLemmas.{low_of}
 use Rattle.js_parser.proofs.HeadLemmas.{Head, IsName, IsThis, IsLiteral, IsTemplate, IsParen, IsFun, IsNew, IsNewTarget, at_line, head_of, sort_of, sort_told}
 use Rattle.js_parser.proofs.MadeLemmas.{out_of, read_at}
 use Rattle.js_parser.specs.Following.{NoKind, Stops, begins_tail, primary_of, rest_level}
@@ -143,15 +144,18 @@ new_view room p x rest word head tails args e at s r =
 
 -- what is put together, as it is seen and as it is read
 pub new_seen : (x : Expr) (word : Token) (head : Expr) (tails : List (Tail Expr)) (args : Option (Bracket (Element Expr))) → roll-Expr (Expr-F.New word head tails args) ≡ x → (below order : ℕ)
-    → below ≡ max (expr head).height (max (tallest_of tail_height tails) (maybe (round_row unmarked higher) args 0)) → order ≡ (if is_some args then MADE else NEW) → IsSeen x below order false
+    → below ≡ max (expr head).height (max (tallest_of tail_height tails) (maybe (round_row unmarked higher) args 0)) → order ≡ (if is_some args then MADE else NEW) → IsSeen x below order false 0
 new_seen x word head tails args rolled below order height rank =
     let e = out_of (Expr-F.New word head tails args) x rolled in
     let s = at-New x word head tails args e in
+    let tall : below + 1 ≡ (expr x).height = ap (λ (n : ℕ). n + 1) height ∙ sym (new_height x word head tails args e) in
+    let goal : false ≡ (expr x).is_target = sym (ap (λ (u : Seen). u.is_target) s) in
     record {
       sound = ap (λ (u : Seen). u.is_sound) s;
       rank = rank ∙ sym (new_rank x word head tails args e);
-      target = sym (ap (λ (u : Seen). u.is_target) s);
-      height = ap (λ n. n + 1) height ∙ sym (new_height x word head tails args e);
+      target = goal;
+      height = tall;
+      low = low_of x (Expr-F.New word head tails args) e below false tall goal 0 refl;
     }
 
 pub new_read : (p m : Place) (x : Expr) (word : Token) (head : Expr) (tails : List (Tail Expr)) (args : Option (Bracket (Element Expr))) → roll-Expr (Expr-F.New word head tails args) ≡ x

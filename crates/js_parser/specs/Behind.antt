@@ -106,6 +106,11 @@ pub record AssignsTo (head x : Value) (more rest : List Piece) : Type 0 where
   pub good : stands ASSIGN (expr given) ≡ true
   pub behind : more ≡ Tok op is_assignment ∷ expr_line given rest
 
+-- what is assigned to an expression that is a target
+pub record AssignsPlace (head x : Value) (more rest : List Piece) : Type 0 where
+  pub place : (expr head.node).is_target ≡ true
+  pub assigns : AssignsTo head x more rest
+
 abbrev pub arm_line : Arm Expr → Onto
 arm_line = arm_row pieces expr_line
 

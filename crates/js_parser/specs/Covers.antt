@@ -31,7 +31,7 @@ use Rattle.js_tokens.specs.declared.goal.Goal.TheVariants as goal
 use Rattle.js_cover.specs.Covers.{CoversParameters}
 use Rattle.js_cover.specs.Parens.{IsParen}
 use Rattle.js_cover.specs.Rooms.{CoverAt, ElementAt, IfThere, PropertyAt, ReadBy}
-use Rattle.js_parser.specs.Behind.{AfterPrimary, AloneOr, AssignsTo, Behind, Chooses, Through}
+use Rattle.js_parser.specs.Behind.{AfterPrimary, AloneOr, AssignsPlace, AssignsTo, Behind, Through}
 use Rattle.js_parser.specs.Brackets.{AfterItem, EnclosedAt, ItemAt, ItemKind, ReadsEnclosed, element_facts, element_line, no_facts}
 use Rattle.js_parser.specs.Following.{Leads, Stops, begins_arrow, strength}
 use Rattle.js_parser.specs.Low.{low, property_low}
@@ -119,7 +119,7 @@ GoesOnCover After given room head = Continues (value_line head) cover_line (λ x
 
 -- what begins with a primary, up to an assignment
 abbrev pub AfterWhole : ℕ → Behind
-AfterWhole room = Through (AfterPrimary room) (AloneOr AssignsTo) BINARY room
+AfterWhole room = Through (AfterPrimary room) (AloneOr AssignsPlace) BINARY room
 
 -- what may be assigned to stands before an operator that assigns to it
 pub record IsAssigned (given room : ℕ) (head : Value) (m : Place) : Type 0 where
@@ -259,6 +259,12 @@ pub data Arrows (params : ArrowParams Slot) (x : Expr) (more rest : List Piece) 
       → more ≡ Ahead on_line ∷ mark pieces kind.Arrow arrow (Ahead begins_value ∷ expr_line value rest) → Arrows params x more rest
   ToBlock : (f : Function) (arrow : Token) (body : Block Stmt) → out-Expr x ≡ Expr-F.«Expr::Fun» f → out-Function f ≡ Function-F.ArrowBlock params arrow body
       → more ≡ Ahead on_line ∷ mark pieces kind.Arrow arrow (block_line body rest) → Arrows params x more rest
+
+-- the function as an item, refused where it is too tall
+pub record MakesArrow (given room : ℕ) (f : Function) (p : Place) (result : Result Cover TokenFault) : Type 0 where
+  pub found : IfOk result (λ x. (out-Expr x.value.node ≡ Expr-F.«Expr::Fun» f) × UnconditionalAt given room x)
+  pub only : (x : Cover) → out-Expr x.value.node ≡ Expr-F.«Expr::Fun» f → UnconditionalAt given room x → Gives result x (Unit {0})
+  pub moves : IfErr result (Refuses p)
 
 -- `=>` stands next, on the line of what stands before it
 abbrev pub ArrowNext : Place → Type 0

@@ -14,11 +14,11 @@ use Rattle.js_tree.specs.declared.token.Token.{Token}
 use Rattle.js_tree.specs.declared.token_kind.TokenKind.{TokenKind}
 use Rattle.js_tree.specs.declared.token_kind.TokenKind.TheVariants as kind
 use Rattle.js_tree.specs.declared.tree.Expr.{Expr}
-use Rattle.js_tree.specs.declared.tree.Expr.TheOpen.{Expr-F}
-use Rattle.js_tree.specs.declared.tree.Function.{Function}
+use Rattle.js_tree.specs.declared.tree.Expr.TheOpen.{Expr-F, Function-F}
+use Rattle.js_tree.specs.declared.tree.Function.{Function, out-Function}
 use Rattle.js_tree.specs.declared.tree.Slot.{Slot}
 use Rattle.js_tree.specs.declared.tree.Stmt.{Stmt}
-use Rattle.js_tree.specs.Folds.{ExprLayer}
+use Rattle.js_tree.specs.Folds.{ExprLayer, FunctionLayer}
 use Rattle.js_tree.specs.Lexing.{Place}
 use Rattle.js_tree.specs.Pieces.{Piece, Tok, Ahead, Onto}
 use Rattle.js_tree.specs.Spelling.{expr, function, slot, stmt, stmts, stmts_height, tallest_of}
@@ -280,7 +280,13 @@ pub record BlockAt (room : ℕ) (x : Tall (Block Stmt)) : Type 0 where
   pub height : x.height ≡ stmts_height x.node.body
   pub fits : x.height ≤ room
 
+-- it has the word `function`
+abbrev pub is_keyword : FunctionLayer → Bool
+is_keyword (Function-F.Keyword word name params body) = true
+is_keyword _ = false
+
 pub record FunctionAt (room : ℕ) (x : Tall Function) : Type 0 where
+  pub keyword : is_keyword (out-Function x.node) ≡ true
   pub height : x.height ≡ (function x.node).height
   pub fits : x.height ≤ room
 

@@ -1,9 +1,10 @@
 //! Arrows, and what is declared (ECMA-262, 13.3 and 14.2).
 ghost use Rattle.std.specs.Prelude.{◌≡◌, ◌≤◌, ◌<◌, ◌-◌, ◌||◌, is_some, not};
 ghost use Rattle.js_tree.specs.Spelling as seen;
-ghost use Rattle.js_parser.specs.Covers.{ArrowNext, ArrowParamsAt, GoesOnArrow, MakesParameters, RoundAt};
+ghost use Rattle.js_tree.specs.Spelling.Nodes.{ASSIGN};
+ghost use Rattle.js_parser.specs.Covers.{ArrowNext, ArrowParamsAt, GoesOnArrow, MakesArrow, MakesParameters, RoundAt};
 ghost use Rattle.js_parser.specs.Knot.{Knot};
-ghost use Rattle.js_parser.specs.Nodes.{IsSeen, ReadsParameters, ReadsSlot};
+ghost use Rattle.js_parser.specs.Nodes.{ReadsParameters, ReadsSlot};
 
 use crate::grammar::Grammar;
 use crate::kinds::are_same;
@@ -60,7 +61,12 @@ impl<
         reader: &TokenReader<'_>,
         function: Function,
         below: u32,
-    ) -> Result<Cover, TokenFault> {
+    ) -> Result<Cover, TokenFault>
+        requires some { 0 < self.now.room }
+        requires rank { (seen.function function).rank ≡ ASSIGN }
+        requires height { below ≡ (seen.function function).height }
+        ensures made { MakesArrow self.now.given self.now.room function reader.now result }
+    {
         let function = Boxed::new(self.alloc, function)?;
         let node = Expr::Fun { function };
         let value = value(self.alloc, reader, self.room, node, below, 1)?;

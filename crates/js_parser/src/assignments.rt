@@ -1,7 +1,7 @@
 //! Assignments and choices (ECMA-262, 12.14 and 12.15).
 ghost use Rattle.std.specs.Prelude.{◌≡◌, ◌<◌, ◌-◌, nat_le};
 ghost use Rattle.js_tree.specs.Spelling.Nodes.{BINARY};
-ghost use Rattle.js_parser.specs.Behind.{AloneOr, AssignsTo, CallsNoEval, Chooses, GoesOn, ReadsArm};
+ghost use Rattle.js_parser.specs.Behind.{AloneOr, AssignsPlace, AssignsTo, CallsNoEval, Chooses, GoesOn, ReadsArm};
 ghost use Rattle.js_parser.specs.Covers.{AfterWhole, GoesOnUnconditional, IsAssigned, ReadsAlternative};
 ghost use Rattle.js_parser.specs.Knot.{Knot};
 ghost use Rattle.js_parser.specs.Nodes.{ValueAt};
@@ -46,7 +46,7 @@ impl<
         requires knot { Knot E.Fn C.Fn S.Fn self.now }
         requires some { 0 < self.now.room }
         requires first { ValueAt 3 self.now.room first }
-        ensures reads { GoesOnUnconditional (AloneOr AssignsTo) self.now.given self.now.room first reader.old reader.new result }
+        ensures reads { GoesOnUnconditional (AloneOr AssignsPlace) self.now.given self.now.room first reader.old reader.new result }
     {
         if !first.is_target {
             return Ok(sound(first));

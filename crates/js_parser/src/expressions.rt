@@ -22,12 +22,10 @@ impl<
     /// An expression of the level.
     pub fn expression(&self, reader: &mut TokenReader<'_>, level: u8) -> Result<Value, TokenFault>
         requires knot { Knot E.Fn C.Fn S.Fn self.now }
+        requires given { self.now.given + 1 ≡ self.now.room }
         requires level { is_level level ≡ true }
         ensures reads { ReadsExpr level self.now.room reader.old reader.new result }
     {
-        if self.room == 0 {
-            return Err(reader.refusal());
-        }
         match level {
             0 => self.comma(reader),
             1 => self.assignment(reader),
@@ -41,6 +39,7 @@ impl<
     fn comma(&self, reader: &mut TokenReader<'_>) -> Result<Value, TokenFault>
         requires knot { Knot E.Fn C.Fn S.Fn self.now }
         requires some { 0 < self.now.room }
+        requires given { self.now.given + 1 ≡ self.now.room }
         ensures reads { ReadsExpr 0 self.now.room reader.old reader.new result }
     {
         let first = self.assignment(reader)?;

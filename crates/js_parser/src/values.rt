@@ -1,6 +1,6 @@
 //! Values, where they are no taller than the room.
-ghost use Rattle.std.specs.Prelude.{◌≡◌, ◌≤◌, false, if◌then◌else◌};
-ghost use Rattle.js_parser.specs.Covers.{MakesCover};
+ghost use Rattle.std.specs.Prelude.{◌≡◌, ◌<◌, true, false, if◌then◌else◌};
+ghost use Rattle.js_parser.specs.Covers.{IsCovered, MakesCover};
 ghost use Rattle.js_parser.specs.Nodes.{IsSeen, Makes};
 
 use crate::tall::{Cover, Facts, Value};
@@ -59,7 +59,8 @@ pub fn low_where(is_target: bool, low: u32) -> u32
 
 /// An array or an object, by what is known of its items.
 pub fn cover(alloc: Global, node: Expr, facts: Facts) -> Result<Cover, TokenFault>
-    requires low { facts.height < 4294967295 }
+    requires height { facts.height < 4294967295 }
+    requires low { facts.low < 4294967295 }
     requires seen { IsCovered node facts }
     ensures made { MakesCover node result }
 {
@@ -78,7 +79,8 @@ pub fn cover(alloc: Global, node: Expr, facts: Facts) -> Result<Cover, TokenFaul
 
 /// An expression that is as it must be.
 pub fn sound(value: Value) -> Cover
-    ensures { result.value ≡ value.entry }
+    ensures same { result.value ≡ value }
+    ensures sound { result.is_sound ≡ true }
 {
     Cover {
         value,

@@ -39,10 +39,10 @@ returns-then-is_empty g c =
       };
     }
 
-pub value-requires : goal.value-requires
-value-requires g c =
+pub place-requires : goal.place-requires
+place-requires g c =
     let t = c.in_ok-tails.ensures.reads.found.1 in
-    record { seen = chain_seen _ c.args.head.node c.in_ok-tails.tails.node (rolls-Chain c.args.head.node c.in_ok-tails.tails.node) _ _ (omega (arith, c.higher-below.ensures, c.requires.first.height, t.height)) c.is_target-is_target.ensures }
+    record { seen = chain_seen _ c.args.head.node c.in_ok-tails.tails.node (rolls-Chain c.args.head.node c.in_ok-tails.tails.node) _ _ (omega (arith, c.higher-below.ensures, c.requires.first.height, t.height)) c.is_target-is_target.ensures _ c.low_where-low.ensures }
 
 pub returns : goal.returns
 returns g c =
@@ -50,7 +50,7 @@ returns g c =
     let rolls = rolls-Chain c.args.head.node c.in_ok-tails.tails.node in
     let some = not_empty _ _ c.is_empty.ensures.1 c.if-is_empty.false in
     record {
-      reads = made_on (AloneOr TakesTails) _ _ _ 17 _ _ _ _ c.value.ensures.made (omega arith)
+      reads = made_on (AloneOr TakesTails) _ _ _ 17 _ _ _ _ c.place.ensures.made (omega arith)
           (λ p before. chain_read _ _ p _ _ _ c.args.head c.in_ok-tails.tails rolls before w.found.0 c.requires.first c.if-head-lt19.false w.found.1 some (λ rest r. c.requires.direct c.in_ok-tails.tails.node rest r))
           w.moves w.shorter
           (λ x behind rest a at s r.

@@ -20,12 +20,12 @@ returns-in_err-name g c = record {
       want _ _ _ (c.in_err-name.ensures.only v.0 rest (at_line _ x.node rest (Expr-F.«Expr::Name» v.0) v.1 r) tt tt)) c.from_residual.ensures.1;
 }
 
-pub value-requires : goal.value-requires
-value-requires g c = record { seen = seen_at (Expr-F.«Expr::Name» c.in_ok-name.name) _ (rolls-Name c.in_ok-name.name) 0 20 true refl refl refl refl 1 refl }
+pub place-requires : goal.place-requires
+place-requires g c = record { seen = seen_at (Expr-F.«Expr::Name» c.in_ok-name.name) _ (rolls-Name c.in_ok-name.name) 0 20 true refl refl refl refl 1 refl }
 
 pub returns : goal.returns
 returns g c = record {
-  reads = made 20 _ 18 _ _ _ _ c.value.ensures.made (omega arith)
+  reads = made 20 _ 18 _ _ _ _ c.place.ensures.made (omega arith)
       (read_at (Expr-F.«Expr::Name» c.in_ok-name.name) _ (rolls-Name c.in_ok-name.name) _ _ (λ rest r. with_mark kinds.Name _ _ _ rest c.in_ok-name.ensures.found.0 c.in_ok-name.ensures.found.1 r)) c.in_ok-name.ensures.moves c.in_ok-name.ensures.shorter
       (λ x rest r at s.
       let v = of_sort _ x.node rest sorts.Name c.requires.told r (high _ x at) in

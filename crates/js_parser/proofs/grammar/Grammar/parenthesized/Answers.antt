@@ -1,4 +1,4 @@
-use Rattle.std.proofs.Common.{refl, sym, ◌∙◌, arith}
+use Rattle.std.proofs.Common.{ℕ, ◌+◌, refl, sym, ap, ◌∙◌, arith, if◌then◌else◌}
 use Rattle.js_tree.specs.Spelling.Nodes.{pieces}
 use Rattle.js_tree.specs.Spelling.Rows.{mark}
 use Rattle.js_tree.specs.declared.token_kind.TokenKind.TheVariants as kinds
@@ -43,14 +43,15 @@ returns-in_err-close g c = record {
       want _ _ _ (c.in_err-close.ensures.only v.2 rest g1.1 tt tt)) c.from_residual-in_err-close.ensures.1;
 }
 
-pub value-requires : goal.value-requires
-value-requires g c =
+pub place-requires : goal.place-requires
+place-requires g c =
     let w = c.in_ok-inner.ensures.reads.found.1 in
-    record { seen = seen_at (Expr-F.«Expr::Paren» c.in_ok-open.open c.in_ok-inner.inner.node c.in_ok-close.close) _ (rolls-Paren c.in_ok-open.open c.in_ok-inner.inner.node c.in_ok-close.close) _ 20 _ (sound_at 0 _ _ w) refl w.target (omega (arith, w.height)) }
+    record { seen = seen_at (Expr-F.«Expr::Paren» c.in_ok-open.open c.in_ok-inner.inner.node c.in_ok-close.close) _ (rolls-Paren c.in_ok-open.open c.in_ok-inner.inner.node c.in_ok-close.close) _ 20 _ (sound_at 0 _ _ w) refl w.target (omega (arith, w.height)) _
+        (ap (λ (n : ℕ). if c.in_ok-inner.inner.is_target then n + 1 else 0) (sym w.low) ∙ sym c.low_where-low.ensures) }
 
 pub returns : goal.returns
 returns g c = record {
-  reads = made 20 _ 18 _ _ _ _ c.value.ensures.made (omega arith)
+  reads = made 20 _ 18 _ _ _ _ c.place.ensures.made (omega arith)
       (read_at (Expr-F.«Expr::Paren» c.in_ok-open.open c.in_ok-inner.inner.node c.in_ok-close.close) _ (rolls-Paren c.in_ok-open.open c.in_ok-inner.inner.node c.in_ok-close.close) _ _
       (λ rest r. with_mark kinds.LeftParen _ _ _ _ c.in_ok-open.ensures.found.0 c.in_ok-open.ensures.found.1
       (c.in_ok-inner.ensures.reads.found.0 (mark pieces kinds.RightParen c.in_ok-close.close rest)
