@@ -8,7 +8,6 @@ use Rattle.js_tree.specs.declared.token_kind.TokenKind.{TokenKind}
 use Rattle.js_tree.specs.declared.token_kind.TokenKind.TheVariants as kinds
 use Rattle.js_tree.specs.Lexing.{Place}
 use Rattle.js_tree.specs.Pieces.{Piece, Tok, Onto}
-use Rattle.js_tree.specs.Spelling.{tallest_of}
 use Rattle.js_tree.specs.Spelling.Nodes.{ASSIGN, passes, pieces}
 use Rattle.js_tree.specs.Spelling.Rows.{each_of, listed_row, may_mark, maybe}
 use Rattle.js_tree.specs.TokenKinds.{is}
@@ -22,10 +21,11 @@ use Rattle.js_parser.proofs.BeginLemmas.{next_of, no_kind_before, other_told, st
 use Rattle.js_parser.proofs.ListLemmas.{each-push}
 use Rattle.js_parser.proofs.PlaceLemmas.{passes_none, passes_on}
 use Rattle.js_parser.proofs.ReadLemmas.{IsWant, want}
-use Rattle.js_parser.specs.Brackets.{AfterItem, AllHold, Before, BeginsElse, Closes, Every, HoldsLast, InsideAt, ItemAt, ItemKind, Puts, ReadsItem, inside_line}
+use Rattle.js_cover.specs.Rooms.{Every}
+use Rattle.js_parser.specs.Brackets.{AfterItem, AllHold, Before, BeginsElse, Closes, HoldsLast, InsideAt, ItemAt, ItemKind, Puts, ReadsItem, inside_line}
 use Rattle.js_parser.specs.Nodes.{NoMark, ReadsMaybe}
 use Rattle.js_parser.specs.declared.brackets.Inside.{Inside}
-use Rattle.js_parser.specs.declared.tall.Tall.{Tall}
+use Rattle.js_parser.specs.declared.tall.Item.{Item}
 
 none_some : (t : Token) → ◌≡◌ {A = Option Token} None (Some t) → ⊥
 none_some t e = true≢false (sym (ap (λ (o : Option Token). is_some o) e))
@@ -77,12 +77,12 @@ module _ {X : Type 0} (k : ItemKind X) (close : TokenKind) (room : ℕ) where
   a_comma : (t : Token) (rest : List Piece) → NoMark kinds.Comma (Some t) rest
   a_comma t rest e = absurd (true≢false e)
 
-  -- with its height
-  abbrev tall_item : X → Tall X
-  tall_item x = record { node = x; height = k.tall x }
+  -- with what is known of it
+  abbrev known_item : X → Item X
+  known_item x = record { node = x; facts = k.facts x }
 
-  item_at : (x : X) → k.holds room x → ItemAt k room (tall_item x)
-  item_at x holds = record { holds = holds; height = refl }
+  item_at : (x : X) → k.holds room x → ItemAt k room (known_item x)
+  item_at x holds = record { holds = holds; facts = refl }
 
   module _ (closes : Closes close) where
     before_close : (x : X) (t : Token) (rest : List Piece) → HoldsLast k room x → AfterItem k x (closing t rest)
@@ -92,11 +92,11 @@ module _ {X : Type 0} (k : ItemKind X) (close : TokenKind) (room : ℕ) where
     no_comma t more e = no_kind_before (is kinds.Comma) close closes.plain closes.comma t more
 
     -- items could be read at p
-    abbrev pub CanBeRead : Place → Tall (Inside X) → List Piece → Type 0
+    abbrev pub CanBeRead : Place → Item (Inside X) → List Piece → Type 0
     CanBeRead p x rest = Reads p (inside_line k x.node rest) × InsideAt k room x × Before close rest
 
     -- they end before the bracket
-    by_bracket : {Q : Type 0} (p : Place) (x : Tall (Inside X)) (rest : List Piece) → CanBeRead p x rest
+    by_bracket : {Q : Type 0} (p : Place) (x : Item (Inside X)) (rest : List Piece) → CanBeRead p x rest
         → ((t : Token) (more : List Piece) → rest ≡ closing t more → Reads p (inside x.node.front x.node.last (closing t more)) → AllHold k room x.node.front x.node.last → Q) → Q
     by_bracket p x [] can use_it = absurd can.2
     by_bracket p x (y ∷ ys) can use_it =
@@ -108,7 +108,7 @@ module _ {X : Type 0} (k : ItemKind X) (close : TokenKind) (room : ℕ) where
     module _ (p m : Place) (front : List (Listed X)) (before : AreRead p front None m) (asked : TokenKind) (next : IsNextKind m asked) (other : is close asked ≡ false) where
       -- what can't be read refuses all items
       refused_by : (e : TokenFault) → ((y : X) (t : Token) (more : List Piece) → Reads m (k.line y (closing t more)) → HoldsLast k room y → IsWant e)
-          → ((y : Listed X) (rest : List Piece) → Reads m (listed_row pieces k.line y rest) → k.holds room y.item → IsWant e) → (x : Tall (Inside X)) (rest : List Piece) → CanBeRead p x rest → IsWant e
+          → ((y : Listed X) (rest : List Piece) → Reads m (listed_row pieces k.line y rest) → k.holds room y.item → IsWant e) → (x : Item (Inside X)) (rest : List Piece) → CanBeRead p x rest → IsWant e
           refused_by e as_last listed x rest can = by_bracket p x rest can (λ t more same r fit. let a = before.only x.node.front x.node.last t more r fit in onward t more a.0 x.node.last a.2 a.3)
         where
           onward : (t : Token) (more : List Piece) (ys : List (Listed X)) (l : Option X) → Reads m (inside ys l (closing t more)) → AllHold k room ys l → IsWant e
@@ -116,15 +116,15 @@ module _ {X : Type 0} (k : ItemKind X) (close : TokenKind) (room : ℕ) where
           onward t more [] (Some y) r fit = as_last y t more r fit.end
           onward t more (y ∷ ys) l r fit = listed y (inside ys l (closing t more)) r fit.each.0
 
-      pub item_refused : (n : Place) (e : TokenFault) → ReadsItem k room m n (Err e) → (x : Tall (Inside X)) (rest : List Piece) → CanBeRead p x rest → IsWant e
+      pub item_refused : (n : Place) (e : TokenFault) → ReadsItem k room m n (Err e) → (x : Item (Inside X)) (rest : List Piece) → CanBeRead p x rest → IsWant e
       item_refused n e reads =
-          refused_by e (λ y t more r fit. want (tall_item y) _ e (reads.only (tall_item y) (closing t more) r (item_at y fit.0) (before_close y t more fit)))
-          (λ y rest r fit. want (tall_item y.item) _ e (reads.only (tall_item y.item) (Tok y.mark (is kinds.Comma) ∷ rest) r (item_at y.item fit) (before_comma y.item y.mark rest)))
+          refused_by e (λ y t more r fit. want (known_item y) _ e (reads.only (known_item y) (closing t more) r (item_at y fit.0) (before_close y t more fit)))
+          (λ y rest r fit. want (known_item y.item) _ e (reads.only (known_item y.item) (Tok y.mark (is kinds.Comma) ∷ rest) r (item_at y.item fit) (before_comma y.item y.mark rest)))
 
-      module _ (item : Tall X) (n : Place) (reads : ReadsItem k room m n (Ok item)) where
+      module _ (item : Item X) (n : Place) (reads : ReadsItem k room m n (Ok item)) where
         -- it is the item that was read
         one : (y : X) (rest : List Piece) → Reads m (k.line y rest) → k.holds room y → AfterItem k y rest → (item.node ≡ y) × Reads n rest
-        one y rest r fit after = let g = reads.only (tall_item y) rest r (item_at y fit) after in (ap (λ (z : Tall X). z.node) g.0, g.1)
+        one y rest r fit after = let g = reads.only (known_item y) rest r (item_at y fit) after in (ap (λ (z : Item X). z.node) g.0, g.1)
 
         one_last : (y : X) (t : Token) (more : List Piece) → Reads m (k.line y (closing t more)) → HoldsLast k room y → (item.node ≡ y) × Reads n (closing t more)
         one_last y t more r fit = one y (closing t more) r fit.0 (before_close y t more fit)
@@ -132,13 +132,13 @@ module _ {X : Type 0} (k : ItemKind X) (close : TokenKind) (room : ℕ) where
         one_listed : (y : Listed X) (rest : List Piece) → Reads m (listed_row pieces k.line y rest) → k.holds room y.item → (item.node ≡ y.item) × Reads n (Tok y.mark (is kinds.Comma) ∷ rest)
         one_listed y rest r fit = one y.item (Tok y.mark (is kinds.Comma) ∷ rest) r fit (before_comma y.item y.mark rest)
 
-        pub comma_refused : (q : Place) (e : TokenFault) → ReadsMaybe (may_mark pieces kinds.Comma) (Any (Option Token)) (NoMark kinds.Comma) n q (Err e) → (x : Tall (Inside X)) (rest : List Piece) → CanBeRead p x rest → IsWant e
+        pub comma_refused : (q : Place) (e : TokenFault) → ReadsMaybe (may_mark pieces kinds.Comma) (Any (Option Token)) (NoMark kinds.Comma) n q (Err e) → (x : Item (Inside X)) (rest : List Piece) → CanBeRead p x rest → IsWant e
         comma_refused q e met =
             refused_by e (λ y t more r fit. want None _ e (met.only None (closing t more) (one_last y t more r fit).1 tt (no_comma t more)))
             (λ y rest r fit. want (Some y.mark) _ e (met.only (Some y.mark) rest (one_listed y rest r fit).1 tt (a_comma y.mark rest)))
 
         -- an item lacks its comma
-        pub comma_lacks : (comma : Option Token) (q : Place) → ReadsComma n q comma → is_some comma ≡ false → k.ends item.node ≡ false → (x : Tall (Inside X)) (rest : List Piece) → CanBeRead p x rest → ⊥
+        pub comma_lacks : (comma : Option Token) (q : Place) → ReadsComma n q comma → is_some comma ≡ false → k.ends item.node ≡ false → (x : Item (Inside X)) (rest : List Piece) → CanBeRead p x rest → ⊥
         comma_lacks comma q met lacks never =
             refused_by (fault.Unexpected 0) (λ y t more r fit. true≢false (sym fit.1 ∙ sym (ap k.ends (one_last y t more r fit).0) ∙ never))
             (λ y rest r fit. true≢false (sym (ap (λ (o : Option Token). is_some o) (met.only (Some y.mark) rest (one_listed y rest r fit).1 tt (a_comma y.mark rest)).0) ∙ lacks))
@@ -196,7 +196,7 @@ module _ {X : Type 0} (k : ItemKind X) (close : TokenKind) (room : ℕ) where
 
     -- no item follows
     pub all_read : (p m : Place) (front : List (Listed X)) (last : Option X) (asked : TokenKind) → IsNextKind m asked → (is_some last ≡ false → is close asked ≡ true) → BeginsElse k close → AreRead p front last m
-        → (x : Tall (Inside X)) (rest : List Piece) → CanBeRead p x rest → (front ≡ x.node.front) × (last ≡ x.node.last) × Reads m rest
+        → (x : Item (Inside X)) (rest : List Piece) → CanBeRead p x rest → (front ≡ x.node.front) × (last ≡ x.node.last) × Reads m rest
       all_read p m front (Some y) asked next here begins done x rest can = by_bracket p x rest can (λ t more same r fit.
         let a = done.only x.node.front x.node.last t more r fit in (sym a.0, sym a.1, subst (Reads m) (sym same) a.2))
     all_read p m front None asked next here begins done x rest can = by_bracket p x rest can (λ t more same r fit.

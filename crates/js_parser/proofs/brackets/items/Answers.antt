@@ -1,11 +1,11 @@
-use Rattle.std.proofs.Common.{max, refl, sym, ap, ◌∙◌, subst, arith, List, Option, None}
+use Rattle.std.proofs.Common.{refl, sym, ap, ◌∙◌, subst, arith, List, Option, None}
 use Rattle.js_tree.specs.declared.lists.Listed.{Listed}
 use Rattle.js_tokens.specs.declared.fault.TokenFault.TheVariants as fault
-use Rattle.js_parser.proofs.BracketLemmas.{both_not, not_both, puts_height}
+use Rattle.js_parser.proofs.BracketLemmas.{both_not, not_both, puts_facts}
 use Rattle.js_parser.proofs.ItemLemmas.{AreRead, all_read, comma_lacks, comma_refused, item_refused, none_read, one_more, open_end, puts_fewer}
 use Rattle.js_parser.proofs.PlaceLemmas.{passes_none, passes_on}
 use Rattle.js_parser.proofs.ReadLemmas.{failed_maybe}
-use Rattle.js_parser.specs.Brackets.{Puts, inside_height}
+use Rattle.js_parser.specs.Brackets.{Puts, inside_facts, joint_facts}
 use Rattle.js_parser.proofs.brackets.items.Goals as goal
 
 pub items-init : goal.items-init
@@ -14,7 +14,7 @@ items-init g c =
     let room = g.R.ReadItem.room c.args.by.now in
     record {
       read = subst (λ (front : List (Listed g.row.R-Item.Denot)). AreRead k c.args.close room c.args.reader.now front None c.args.reader.now) (sym c.new-front.ensures) (none_read k c.args.close room c.args.reader.now);
-      height = sym (ap (λ (front : List (Listed g.row.R-Item.Denot)). inside_height k.tall front None) c.new-front.ensures);
+      facts = sym (ap (λ (front : List (Listed g.row.R-Item.Denot)). inside_facts k front None) c.new-front.ensures);
       shorter = omega arith;
     }
 
@@ -66,8 +66,8 @@ items-preserved g c =
       read = one_more k c.args.close room c.requires.closes _ _ _ before _ c.kind.ensures t.1 _ _ c.in_ok-item.ensures c.in_ok-comma.comma _ c.in_ok-comma.ensures.reads
           (λ none. sym c.may_end-ends.ensures ∙ not_both _ _ (sym c.lacks_comma.ensures ∙ c.if-lacks_comma.false) none) _ _
           (subst (λ (l : Option g.row.R-Item.Denot). Puts c.in_ok-item.field-0.node c.in_ok-comma.comma c.items.front l c.put.new.front c.put.new.last) none_yet c.in_ok-put.ensures);
-      height = c.higher-height.ensures ∙ (λ i. max (c.items.invariant.height i) (c.in_ok-item.ensures.found.1.height i))
-          ∙ sym (puts_height k.tall c.in_ok-item.field-0.node c.in_ok-comma.comma c.items.front c.items.last c.put.new.front c.put.new.last c.in_ok-put.ensures t.0);
+      facts = c.joint_facts-facts.ensures ∙ (λ i. joint_facts (c.items.invariant.facts i) (c.in_ok-item.ensures.found.1.facts i))
+          ∙ sym (puts_facts k c.in_ok-item.field-0.node c.in_ok-comma.comma c.items.front c.items.last c.put.new.front c.put.new.last c.in_ok-put.ensures t.0);
       shorter = omega (arith, c.items.invariant.shorter, c.in_ok-item.ensures.shorter, c.in_ok-comma.ensures.reads.shorter);
     }
 
@@ -84,10 +84,10 @@ returns g c =
     let i = c.items.invariant in
     record {
       reads = record {
-        found = (i.read.found, record { all = i.read.fit; height = i.height });
+        found = (i.read.found, record { all = i.read.fit; facts = i.facts });
         only = λ x rest q at b.
             let a = all_read k c.args.close room c.requires.closes _ _ _ _ _ c.kind.ensures (not_both _ _ (sym c.goes_on.ensures ∙ c.items-test.false)) c.requires.other i.read x rest (q, at, b) in
-            (λ j. record { node = record { front = a.0 j; last = a.1 j }; height = (i.height ∙ (λ h. inside_height k.tall (a.0 h) (a.1 h)) ∙ sym at.height) j }, a.2);
+            (λ j. record { node = record { front = a.0 j; last = a.1 j }; facts = (i.facts ∙ (λ h. inside_facts k (a.0 h) (a.1 h)) ∙ sym at.facts) j }, a.2);
         moves = i.read.passes;
         shorter = i.shorter;
       };

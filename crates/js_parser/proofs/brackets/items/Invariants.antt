@@ -1,12 +1,12 @@
 use Rattle.std.proofs.Common.{◌≡◌, ◌≤◌, ◌+◌, length, is_some, if◌then◌else◌}
 use Rattle.js_parser.proofs.ItemLemmas.{AreRead}
-use Rattle.js_parser.specs.Brackets.{inside_height}
+use Rattle.js_parser.specs.Brackets.{inside_facts}
 use Rattle.js_parser.proofs.brackets.items.Given as goal
 
 abbrev pub invariant-items : goal.invariant-items
 invariant-items g l = record {
   read : AreRead g.R.ReadItem.kind l.close (g.R.ReadItem.room l.by) l.fn.reader l.front l.last l.reader;
-  height : l.height ≡ inside_height g.R.ReadItem.kind.tall l.front l.last;
+  facts : l.facts ≡ inside_facts g.R.ReadItem.kind l.front l.last;
   shorter : length l.reader.left ≤ length l.fn.reader.left;
 }
 
