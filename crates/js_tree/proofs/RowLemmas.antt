@@ -182,7 +182,7 @@ module _ {A R : Type 0} (w : WriterOf A R) (v : Views A) where
   property_over (Property-F.Spread dots value) rest = refl
 
   pub stmt_over : (x : StmtLayer) (rest : R) → stmt_row w (seen_stmt v x) rest ≡ stmt_row over x rest
-  stmt_over (Stmt-F.«Stmt::Block» block) rest = refl
+  stmt_over (Stmt-F.Block block) rest = refl
   stmt_over (Stmt-F.Vars word first others semi) rest =
       ap (λ r. w.marks.token is_declarator word (w.slot (v.slot first) r)) (each_map (further_row w.marks w.slot (is kind.Comma)) (map_further v.slot) others (may_mark w.marks kind.Semicolon semi rest))
   stmt_over (Stmt-F.Empty semi) rest = refl

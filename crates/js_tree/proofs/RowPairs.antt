@@ -306,7 +306,7 @@ module _ {R S : Type 0} (v : NodeWriter R) (w : NodeWriter S) (H : Node → Type
   goes_property (Property-F.Spread dots value) g = token (is kind.Dots) dots (expr value g)
 
   goes_stmt : {ns : List Node} {r : R} {s : S} (x : StmtLayer) → G ns r s → G (stmt_row nodes x ns) (stmt_row v x r) (stmt_row w x s)
-  goes_stmt (Stmt-F.«Stmt::Block» b) g = block b g
+  goes_stmt (Stmt-F.Block b) g = block b g
   goes_stmt (Stmt-F.Vars word first others semi) g = token is_declarator word (slot first (each (further slots (is kind.Comma)) others (token_maybe kind.Semicolon semi g)))
   goes_stmt (Stmt-F.Empty semi) g = token (is kind.Semicolon) semi g
   goes_stmt (Stmt-F.Plain value semi) g = ahead begins_plain (expr value (token_maybe kind.Semicolon semi g))

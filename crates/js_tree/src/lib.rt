@@ -15,6 +15,8 @@ mod lists;
 mod node;
 mod part;
 mod spelling;
+mod stmt_line;
+mod stmt_nodes;
 mod token;
 mod token_kind;
 mod tree;

@@ -2,12 +2,13 @@
 ghost use Rattle.std.specs.Prelude.{◌≡◌, ◌++◌, ◌∷◌, map, OnOk};
 ghost use Rattle.js_tree.specs.Adds.{Adds};
 ghost use Rattle.js_tree.specs.Line.{AToken, ANode, given_marks, item_of, items, line_of, line_row};
-ghost use Rattle.js_tree.specs.Parts.{AnExpr, AClause, AFunction, AKey, APattern, APatternProperty, AProperty, AStmt, ASlot, node_of};
+ghost use Rattle.js_tree.specs.Parts.{AnExpr, AFunction, AKey, APattern, APatternProperty, AProperty, ASlot, node_of};
 ghost use Rattle.js_tree.specs.Spelling.Rows.{tail_row};
 
 use crate::in_line::{InLine, push_each, push_tails};
 use crate::lists::Tail;
 use crate::node::Node;
+use crate::stmt_line::{push_clause, push_stmt};
 use crate::token::Token;
 use crate::tree::{
     Expr, Function, Key, Pattern, PatternProperty, Property, Slot, Stmt, StmtClause,
@@ -233,193 +234,6 @@ fn push_property<'t>(property: &'t Property, out: &mut Vec<LineItem<'t>>) -> Res
             push_token(dots, out)?;
             push_node(Node::Expr(value.get()), out)
         }
-    }
-}
-
-fn push_stmt<'t>(statement: &'t Stmt, out: &mut Vec<LineItem<'t>>) -> Result<(), OutOfMemory>
-    ensures { OnOk result (Adds item_of (line_row (AStmt statement.now))
-        out.old.items out.new.items) }
-{
-    match statement {
-        Stmt::Block { block } => block.push_items(out),
-        Stmt::Vars {
-            word,
-            first,
-            rest,
-            semi,
-        } => {
-            push_token(word, out)?;
-            push_node(Node::Slot(first), out)?;
-            push_each(rest.as_slice(), out)?;
-            semi.push_items(out)
-        }
-        Stmt::Empty { semi } => push_token(semi, out),
-        Stmt::Plain { value, semi } => {
-            push_node(Node::Expr(value.get()), out)?;
-            semi.push_items(out)
-        }
-        Stmt::If { first, rest, last } => {
-            first.push_items(out)?;
-            push_each(rest.as_slice(), out)?;
-            last.push_items(out)
-        }
-        Stmt::Do {
-            word,
-            body,
-            again,
-            test,
-            semi,
-        } => {
-            push_token(word, out)?;
-            push_node(Node::Stmt(body.get()), out)?;
-            push_token(again, out)?;
-            test.push_items(out)?;
-            semi.push_items(out)
-        }
-        Stmt::While { word, test, body } => {
-            push_token(word, out)?;
-            test.push_items(out)?;
-            push_node(Node::Stmt(body.get()), out)
-        }
-        Stmt::For {
-            word,
-            open,
-            start,
-            first,
-            test,
-            second,
-            step,
-            close,
-            body,
-        } => {
-            push_token(word, out)?;
-            push_token(open, out)?;
-            start.push_items(out)?;
-            push_token(first, out)?;
-            test.push_items(out)?;
-            push_token(second, out)?;
-            step.push_items(out)?;
-            push_token(close, out)?;
-            push_node(Node::Stmt(body.get()), out)
-        }
-        Stmt::ForIn {
-            word,
-            open,
-            left,
-            mark,
-            value,
-            close,
-            body,
-        } => {
-            push_token(word, out)?;
-            push_token(open, out)?;
-            left.push_items(out)?;
-            push_token(mark, out)?;
-            push_node(Node::Expr(value.get()), out)?;
-            push_token(close, out)?;
-            push_node(Node::Stmt(body.get()), out)
-        }
-        Stmt::ForOf {
-            word,
-            open,
-            left,
-            mark,
-            value,
-            close,
-            body,
-        } => {
-            push_token(word, out)?;
-            push_token(open, out)?;
-            left.push_items(out)?;
-            push_token(mark, out)?;
-            push_node(Node::Expr(value.get()), out)?;
-            push_token(close, out)?;
-            push_node(Node::Stmt(body.get()), out)
-        }
-        Stmt::Jump { word, label, semi } => {
-            push_token(word, out)?;
-            label.push_items(out)?;
-            semi.push_items(out)
-        }
-        Stmt::Return { word, value, semi } => {
-            push_token(word, out)?;
-            value.push_items(out)?;
-            semi.push_items(out)
-        }
-        Stmt::Throw { word, value, semi } => {
-            push_token(word, out)?;
-            push_node(Node::Expr(value.get()), out)?;
-            semi.push_items(out)
-        }
-        Stmt::Switch {
-            word,
-            value,
-            begin,
-            cases,
-            end,
-        } => {
-            push_token(word, out)?;
-            value.push_items(out)?;
-            push_token(begin, out)?;
-            push_node(Node::Cases(cases.as_slice()), out)?;
-            push_token(end, out)
-        }
-        Stmt::Try {
-            word,
-            body,
-            handler,
-            last,
-        } => {
-            push_token(word, out)?;
-            push_node(Node::Stmt(body.get()), out)?;
-            handler.push_items(out)?;
-            last.push_items(out)
-        }
-        Stmt::Label { name, colon, body } => {
-            push_token(name, out)?;
-            push_token(colon, out)?;
-            push_node(Node::Stmt(body.get()), out)
-        }
-        Stmt::Debugger { word, semi } => {
-            push_token(word, out)?;
-            semi.push_items(out)
-        }
-        Stmt::Fun { function } => push_node(Node::Function(function.get()), out),
-    }
-}
-
-fn push_clause<'t>(clause: &'t StmtClause, out: &mut Vec<LineItem<'t>>) -> Result<(), OutOfMemory>
-    ensures { OnOk result (Adds item_of (line_row (AClause clause.now))
-        out.old.items out.new.items) }
-{
-    match clause {
-        StmtClause::Guarded { word, test, body } => {
-            push_token(word, out)?;
-            test.push_items(out)?;
-            push_node(Node::Stmt(body.get()), out)
-        }
-        StmtClause::Case {
-            word,
-            test,
-            colon,
-            body,
-        } => {
-            push_token(word, out)?;
-            test.push_items(out)?;
-            push_token(colon, out)?;
-            push_each(body.as_slice(), out)
-        }
-        StmtClause::Catch { word, target, body } => {
-            push_token(word, out)?;
-            target.push_items(out)?;
-            push_node(Node::Stmt(body.get()), out)
-        }
-        StmtClause::Declared { word, first, rest } => {
-            push_token(word, out)?;
-            push_node(Node::Slot(first), out)?;
-            push_each(rest.as_slice(), out)
-        }
-        StmtClause::Value { value } => push_node(Node::Expr(value.get()), out),
     }
 }
 

@@ -20,7 +20,7 @@ use Rattle.js_tree.specs.Spelling.Nodes.{Seen, Ending, AfterOperand, AfterWord, 
 -- SPELLING, one line for each kind
 
 abbrev pub stmt_row : {E F K P Q O S C L R : Type 0} → Writer E F K P Q O S C L R → Stmt-F E F K P Q O S C L → R → R
-stmt_row w (Stmt-F.«Stmt::Block» block) rest = block_row w.marks w.body block rest
+stmt_row w (Stmt-F.Block block) rest = block_row w.marks w.body block rest
 stmt_row w (Stmt-F.Vars word first others semi) rest =
     w.marks.token is_declarator word (w.slot first (each_of (further_row w.marks w.slot (is kind.Comma)) others (may_mark w.marks kind.Semicolon semi rest)))
 stmt_row w (Stmt-F.Empty semi) rest = mark w.marks kind.Semicolon semi rest
@@ -131,7 +131,7 @@ stmt_behind _ = λ rest. rest
 -- WHAT ELSE IS SEEN
 
 abbrev pub stmt_rank : StmtOf Seen → ℕ
-stmt_rank (Stmt-F.«Stmt::Block» block) = BLOCK
+stmt_rank (Stmt-F.Block block) = BLOCK
 stmt_rank (Stmt-F.If first others last) = IF
 stmt_rank _ = 0
 
