@@ -24,8 +24,8 @@ use Rattle.js_tree.specs.Spelling.Expressions.{expr_musts, expr_row}
 use Rattle.js_tree.specs.Spelling.Functions.{function_musts, function_row}
 use Rattle.js_tree.specs.declared.tree.Expr.TheOpen.{Stmt-F}
 use Rattle.js_tree.specs.Folds.{StmtOf}
-use Rattle.js_tree.specs.Spelling.Statements.{stmt_behind, stmt_musts, stmt_row, semi_behind, do_behind, else_behind}
-use Rattle.js_tree.specs.Spelling.Nodes.{Ending, Seen, pieces, musts, seen_line}
+use Rattle.js_tree.specs.Spelling.Statements.{stmt_behind, stmt_musts, stmt_row, semi_behind, do_behind, else_behind, value_ending}
+use Rattle.js_tree.specs.Spelling.Nodes.{Ending, AfterWord, Seen, last_ending, pieces, musts, seen_line}
 use Rattle.js_tree.specs.Spelling.Rows.{each_of, maybe, tail_row}
 use Rattle.js_tree.proofs.Folds.{map_tail}
 use Rattle.js_tree.proofs.GatherLemmas.{along_parts}
@@ -70,14 +70,14 @@ else-tokens (Some t) ps = refl
 
 -- what is asked of the next token behind a statement is no token
 behind-tokens : (x : StmtOf Seen) (ps : List Piece) → tokens (stmt_behind x ps) ≡ tokens ps
-behind-tokens (Stmt-F.Vars word first others semi) ps = semi-tokens _ semi ps
-behind-tokens (Stmt-F.Plain value semi) ps = semi-tokens _ semi ps
+behind-tokens (Stmt-F.Vars word first others semi) ps = semi-tokens (last_ending first.ending others) semi ps
+behind-tokens (Stmt-F.Plain value semi) ps = semi-tokens value.ending semi ps
 behind-tokens (Stmt-F.If first others last) ps = else-tokens last ps
 behind-tokens (Stmt-F.Do word body again test semi) ps = do-tokens semi ps
-behind-tokens (Stmt-F.Jump word label semi) ps = semi-tokens _ semi ps
-behind-tokens (Stmt-F.Return word value semi) ps = semi-tokens _ semi ps
-behind-tokens (Stmt-F.Throw word value semi) ps = semi-tokens _ semi ps
-behind-tokens (Stmt-F.Debugger word semi) ps = semi-tokens _ semi ps
+behind-tokens (Stmt-F.Jump word label semi) ps = semi-tokens AfterWord semi ps
+behind-tokens (Stmt-F.Return word value semi) ps = semi-tokens (value_ending value) semi ps
+behind-tokens (Stmt-F.Throw word value semi) ps = semi-tokens value.ending semi ps
+behind-tokens (Stmt-F.Debugger word semi) ps = semi-tokens AfterWord semi ps
 behind-tokens _ ps = refl
 
 module _ (ts : List Token) where
