@@ -1,5 +1,5 @@
 -- What is read where an expression or a pattern may turn out to stand (ECMA-262, 12.15 and 14.2).
-use Rattle.std.specs.Prelude.{◌≡◌, ℕ, zero, suc, ◌≤◌, ◌<◌, nat_le, List, ◌∷◌, length, Option, Some, None, is_some, Result, Ok, Err, IfOk, IfErr, Bool, true, false, ◌&&◌, ◌||◌, if◌then◌else◌}
+use Rattle.std.specs.Prelude.{◌≡◌, ℕ, zero, suc, ◌+◌, ◌≤◌, ◌<◌, nat_le, List, ◌∷◌, length, Option, Some, None, is_some, Result, Ok, Err, IfOk, IfErr, Bool, true, false, ◌&&◌, ◌||◌, if◌then◌else◌}
 use Rattle.js_tree.specs.declared.lists.ArrowParams.{ArrowParams}
 use Rattle.js_tree.specs.declared.lists.ArrowParams.TheVariants as shape
 use Rattle.js_tree.specs.declared.lists.Block.{Block}
