@@ -88,14 +88,7 @@ impl<
         let is_target = is_target(&node);
         let low = low_where(is_target, below + 2);
         place(
-            self.alloc,
-            reader,
-            self.room,
-            node,
-            below,
-            17,
-            is_target,
-            low,
+            self.alloc, reader, self.room, node, below, 17, is_target, low,
         )
     }
 

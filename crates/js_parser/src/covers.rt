@@ -120,11 +120,7 @@ impl<
 
     // What is assigned to the pattern where `=` follows, else what begins with the array or the object; where that is
     // no expression, it is the whole item.
-    fn behind_cover(
-        &self,
-        reader: &mut TokenReader<'_>,
-        first: Cover,
-    ) -> Result<Cover, TokenFault>
+    fn behind_cover(&self, reader: &mut TokenReader<'_>, first: Cover) -> Result<Cover, TokenFault>
         requires knot { Knot E.Fn C.Fn S.Fn self.now }
         requires some { 0 < self.now.room }
         requires first { BracketAt self.now.given self.now.room first.entry }
@@ -178,11 +174,13 @@ impl<
         if !facts.is_sound {
             return Err(refusal);
         }
-        let Some(RoundExpr {
-            node,
-            height,
-            is_target,
-        }) = paren_of(self.alloc, node, facts.height, facts.is_target)?
+        let Some(
+            RoundExpr {
+                node,
+                height,
+                is_target,
+            },
+        ) = paren_of(self.alloc, node, facts.height, facts.is_target)?
         else {
             return Err(refusal);
         };

@@ -92,14 +92,7 @@ impl<
             op,
             operand: operand.node,
         };
-        value(
-            self.alloc,
-            reader,
-            self.room,
-            node,
-            operand.height,
-            rank,
-        )
+        value(self.alloc, reader, self.room, node, operand.height, rank)
     }
 
     /// A target and `++` or `--` on its line, or the expression alone.

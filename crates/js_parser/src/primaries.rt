@@ -68,14 +68,7 @@ impl<
         ensures reads { ReadsExpr 18 self.now.room reader.old reader.new result }
     {
         let word = mark(self.alloc, reader, TokenKind::This)?;
-        value(
-            self.alloc,
-            reader,
-            self.room,
-            Expr::This(word),
-            0,
-            20,
-        )
+        value(self.alloc, reader, self.room, Expr::This(word), 0, 20)
     }
 
     // A literal; a `/` begins a regular expression here.
@@ -86,14 +79,7 @@ impl<
         ensures reads { ReadsExpr 18 self.now.room reader.old reader.new result }
     {
         let token = reader.take(self.alloc, Goal::Operand)?;
-        value(
-            self.alloc,
-            reader,
-            self.room,
-            Expr::Literal(token),
-            0,
-            20,
-        )
+        value(self.alloc, reader, self.room, Expr::Literal(token), 0, 20)
     }
 
     /// An expression in round brackets.
@@ -115,14 +101,7 @@ impl<
             close,
         };
         place(
-            self.alloc,
-            reader,
-            self.room,
-            node,
-            below,
-            20,
-            is_target,
-            low,
+            self.alloc, reader, self.room, node, below, 20, is_target, low,
         )
     }
 

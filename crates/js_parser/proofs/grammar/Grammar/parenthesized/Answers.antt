@@ -46,8 +46,10 @@ returns-in_err-close g c = record {
 pub place-requires : goal.place-requires
 place-requires g c =
     let w = c.in_ok-inner.ensures.reads.found.1 in
-    record { seen = seen_at (Expr-F.«Expr::Paren» c.in_ok-open.open c.in_ok-inner.inner.node c.in_ok-close.close) _ (rolls-Paren c.in_ok-open.open c.in_ok-inner.inner.node c.in_ok-close.close) _ 20 _ (sound_at 0 _ _ w) refl w.target (omega (arith, w.height)) _
-        (ap (λ (n : ℕ). if c.in_ok-inner.inner.is_target then n + 1 else 0) (sym w.low) ∙ sym c.low_where-low.ensures) }
+    record {
+      seen = seen_at (Expr-F.«Expr::Paren» c.in_ok-open.open c.in_ok-inner.inner.node c.in_ok-close.close) _ (rolls-Paren c.in_ok-open.open c.in_ok-inner.inner.node c.in_ok-close.close) _ 20 _ (sound_at 0 _ _ w) refl w.target (omega (arith, w.height)) _
+          (ap (λ (n : ℕ). if c.in_ok-inner.inner.is_target then n + 1 else 0) (sym w.low) ∙ sym c.low_where-low.ensures);
+    }
 
 pub returns : goal.returns
 returns g c = record {
