@@ -5,6 +5,7 @@ use Rattle.js_tree.specs.declared.lists.Element.{Element}
 use Rattle.js_tree.specs.declared.lists.Listed.{Listed}
 use Rattle.js_tree.specs.declared.tree.Expr.{Expr, out-Expr}
 use Rattle.js_tree.specs.declared.tree.Expr.TheVariants as expression
+use Rattle.js_tree.specs.declared.tree.Pattern.TheVariants as bound
 use Rattle.js_tree.specs.declared.tree.PatternProperty.{PatternProperty, out-PatternProperty}
 use Rattle.js_tree.specs.declared.tree.Property.{Property, out-Property}
 use Rattle.js_tree.specs.declared.tree.Property.TheVariants as value_of
@@ -23,10 +24,10 @@ use Rattle.js_cover.proofs.+cover.Goals as goal
 -- PATTERNS
 
 pub patterns::pattern_of-returns-in-Name-clause-found : goal.patterns::pattern_of-returns-in-Name-clause-found
-patterns::pattern_of-returns-in-Name-clause-found t c = subst (λ (x : Expr). Covers x _) (sym c.in-Name.is) (name_made c.in-Name.name)
+patterns::pattern_of-returns-in-Name-clause-found t c = subst (λ (x : Expr). Covers x (bound.Name c.in-Name.name)) (sym c.in-Name.is) (name_made c.in-Name.name)
 
 pub patterns::pattern_of-returns-in-Name-clause-only : goal.patterns::pattern_of-returns-in-Name-clause-only
-patterns::pattern_of-returns-in-Name-clause-only t c = subst (λ (x : Expr). One (Covers x) _) (sym c.in-Name.is) (name_one c.in-Name.name)
+patterns::pattern_of-returns-in-Name-clause-only t c = subst (λ (x : Expr). One (Covers x) (bound.Name c.in-Name.name)) (sym c.in-Name.is) (name_one c.in-Name.name)
 
 pub patterns::pattern_of-paren_pattern-requires : goal.patterns::pattern_of-paren_pattern-requires
 patterns::pattern_of-paren_pattern-requires t c =
@@ -70,8 +71,11 @@ patterns::pattern_of-returns-in-Chain-clause-found t c = subst (λ (x : Expr). M
 pub patterns::pattern_of-returns-in-Chain-clause-only : goal.patterns::pattern_of-returns-in-Chain-clause-only
 patterns::pattern_of-returns-in-Chain-clause-only t c = subst (λ (x : Expr). MakesOnly c.member_pattern.result (Covers x)) (sym c.in-Chain.is) c.member_pattern.ensures.only
 
-pub patterns::pattern_of-returns-in_default-clause-only : goal.patterns::pattern_of-returns-in_default-clause-only
-patterns::pattern_of-returns-in_default-clause-only t c = others_no c.args.cover c.in_default.not-Name c.in_default.not-Paren c.in_default.not-Array c.in_default.not-Object c.in_default.not-Chain
+pub patterns::pattern_of-returns : goal.patterns::pattern_of-returns
+patterns::pattern_of-returns t c = record {
+  found = tt;
+  only = others_no c.args.cover c.in_default.not-Name c.in_default.not-Paren c.in_default.not-Array c.in_default.not-Object c.in_default.not-Chain;
+}
 
 -- ROUND BRACKETS
 
@@ -91,12 +95,12 @@ patterns::paren_pattern-returns-then-not-is_place-clause-only t c =
 
 pub patterns::paren_pattern-returns-clause-found : goal.patterns::paren_pattern-returns-clause-found
 patterns::paren_pattern-returns-clause-found t c =
-    paren_made c.args.begin c.args.inner c.args.end c.in-Some.inner _ c.in_ok-new.ensures (has_made Covers _ c.args.inner c.into_inner.ensures _ c.in-Some.inner c.in-Some.is c.in_ok-inner.ensures.found)
+    paren_made c.args.begin c.args.inner c.args.end c.in-Some.inner _ c.in_ok-inner-2.ensures (has_made Covers _ c.args.inner c.into_inner.ensures _ c.in-Some.inner c.in-Some.is c.in_ok-inner.ensures.found)
     (sym c.is_place.ensures ∙ c.if-not-is_place.false)
 
 pub patterns::paren_pattern-returns-clause-only : goal.patterns::paren_pattern-returns-clause-only
 patterns::paren_pattern-returns-clause-only t c =
-    paren_one c.args.begin c.args.inner c.args.end c.in-Some.inner _ c.in_ok-new.ensures (made_one Covers _ c.args.inner c.into_inner.ensures _ c.in-Some.inner c.in-Some.is c.in_ok-inner.ensures.only)
+    paren_one c.args.begin c.args.inner c.args.end c.in-Some.inner _ c.in_ok-inner-2.ensures (made_one Covers _ c.args.inner c.into_inner.ensures _ c.in-Some.inner c.in-Some.is c.in_ok-inner.ensures.only)
 
 -- SLOTS
 
@@ -108,15 +112,14 @@ slots::slot_of-returns-in-Assign-clause-only t c = some_only CoversSlot _ c.args
 
 pub slots::slot_of-slot_alone-requires : goal.slots::slot_of-slot_alone-requires
 slots::slot_of-slot_alone-requires t c =
-    let same = c.in_default.other-is in
-    let high = ap (λ (x : Expr). (expr x).height) same in
-    (omega (arith, high), no_assign _ (λ target op value e. c.in_default.not-Assign target op value (same ∙ e)))
+    let high = ap (λ (x : Expr). (expr x).height) c.in_default.other-is in
+    (omega (arith, high), no_assign c.args.cover c.in_default.not-Assign)
 
 pub slots::slot_of-returns-in_default-clause-found : goal.slots::slot_of-returns-in_default-clause-found
-slots::slot_of-returns-in_default-clause-found t c = subst (λ (x : Expr). Makes c.slot_alone.result (CoversSlot x)) (sym c.in_default.other-is) c.slot_alone.ensures.found
+slots::slot_of-returns-in_default-clause-found t c = c.slot_alone.ensures.found
 
 pub slots::slot_of-returns-in_default-clause-only : goal.slots::slot_of-returns-in_default-clause-only
-slots::slot_of-returns-in_default-clause-only t c = subst (λ (x : Expr). MakesOnly c.slot_alone.result (CoversSlot x)) (sym c.in_default.other-is) c.slot_alone.ensures.only
+slots::slot_of-returns-in_default-clause-only t c = c.slot_alone.ensures.only
 
 pub slots::slot_alone-returns-in_default-clause-only : goal.slots::slot_alone-returns-in_default-clause-only
 slots::slot_alone-returns-in_default-clause-only t c = alone_no c.args.cover c.requires.kind (made_no Covers _ c.args.cover refl _ (none_of _ c.in_default.not-Some) c.in_ok-target.ensures.only)
@@ -202,10 +205,10 @@ arrays::front_slots-item_slot-requires t c =
     let low = next_low item_height _ c.loop-listed.left _ c.in-Some.listed c.in-Some.ensures c.loop-listed.invariant.low in
     (omega (arith, low), tt)
 
-pub arrays::front_slots-returns-in_default-clause-only : goal.arrays::front_slots-returns-in_default-clause-only
-arrays::front_slots-returns-in_default-clause-only t c =
+pub arrays::front_slots-returns-in_default-2-clause-only : goal.arrays::front_slots-returns-in_default-2-clause-only
+arrays::front_slots-returns-in_default-2-clause-only t c =
     loop_none (ItemPair CoversSlot) c.args.front c.loop-listed.left _ c.loop-listed.slots c.in-Some.listed c.in-Some.ensures c.loop-listed.invariant.halfway
-    (made_no (ItemPair CoversSlot) _ _ refl _ (none_of _ c.in_default.not-Some) c.in_ok-item.ensures.only)
+    (made_no (ItemPair CoversSlot) _ _ refl _ (none_of _ c.in_default-2.not-Some) c.in_ok-item.ensures.only)
 
 pub arrays::front_slots-loop-listed-smaller : goal.arrays::front_slots-loop-listed-smaller
 arrays::front_slots-loop-listed-smaller t c = taken_shorter _ _ c.in-Some.listed c.in-Some.ensures
@@ -265,12 +268,12 @@ arrays::array_pattern-returns-then-not-ends_well-clause-only t c =
 
 pub arrays::array_pattern-returns-clause-found : goal.arrays::array_pattern-returns-clause-found
 arrays::array_pattern-returns-clause-found t c =
-    array_made c.args.items c.in-Some.slots _ c.in_ok-new.ensures (has_made (InPairs (ItemPair CoversSlot)) _ c.args.items c.into_inner.ensures _ c.in-Some.slots c.in-Some.is c.in_ok-slots.ensures.found)
+    array_made c.args.items c.in-Some.slots _ c.in_ok-slots-2.ensures (has_made (InPairs (ItemPair CoversSlot)) _ c.args.items c.into_inner.ensures _ c.in-Some.slots c.in-Some.is c.in_ok-slots.ensures.found)
     (sym c.ends_well.ensures ∙ c.if-not-ends_well.false)
 
 pub arrays::array_pattern-returns-clause-only : goal.arrays::array_pattern-returns-clause-only
 arrays::array_pattern-returns-clause-only t c =
-    array_one c.args.items c.in-Some.slots _ c.in_ok-new.ensures (made_one (InPairs (ItemPair CoversSlot)) _ c.args.items c.into_inner.ensures _ c.in-Some.slots c.in-Some.is c.in_ok-slots.ensures.only)
+    array_one c.args.items c.in-Some.slots _ c.in_ok-slots-2.ensures (made_one (InPairs (ItemPair CoversSlot)) _ c.args.items c.into_inner.ensures _ c.in-Some.slots c.in-Some.is c.in_ok-slots.ensures.only)
 
 -- PROPERTIES
 
@@ -399,10 +402,10 @@ objects::front_properties-property-requires t c =
     let low = next_low value_height _ c.loop-listed.left _ c.in-Some.listed c.in-Some.ensures c.loop-listed.invariant.low in
     (omega (arith, low), tt)
 
-pub objects::front_properties-returns-in_default-clause-only : goal.objects::front_properties-returns-in_default-clause-only
-objects::front_properties-returns-in_default-clause-only t c =
+pub objects::front_properties-returns-in_default-2-clause-only : goal.objects::front_properties-returns-in_default-2-clause-only
+objects::front_properties-returns-in_default-2-clause-only t c =
     loop_none CoversProperty c.args.front c.loop-listed.left _ c.loop-listed.properties c.in-Some.listed c.in-Some.ensures c.loop-listed.invariant.halfway
-    (made_no CoversProperty _ _ refl _ (none_of _ c.in_default.not-Some) c.in_ok-item.ensures.only)
+    (made_no CoversProperty _ _ refl _ (none_of _ c.in_default-2.not-Some) c.in_ok-item.ensures.only)
 
 pub objects::front_properties-loop-listed-smaller : goal.objects::front_properties-loop-listed-smaller
 objects::front_properties-loop-listed-smaller t c = taken_shorter _ _ c.in-Some.listed c.in-Some.ensures
@@ -462,11 +465,11 @@ objects::object_pattern-returns-then-not-have_no_rest-clause-only t c =
 
 pub objects::object_pattern-returns-clause-found : goal.objects::object_pattern-returns-clause-found
 objects::object_pattern-returns-clause-found t c =
-    object_made c.args.properties c.in-Some.properties _ c.in_ok-new.ensures
+    object_made c.args.properties c.in-Some.properties _ c.in_ok-properties-2.ensures
     (has_made (InPairs CoversProperty) _ c.args.properties c.into_inner.ensures _ c.in-Some.properties c.in-Some.is c.in_ok-properties.ensures.found)
     (ap (list_all (λ (x : Listed PatternProperty). is_no_rest (out-PatternProperty x.item))) (sym c.as_slice.ensures) ∙ sym c.have_no_rest.ensures ∙ c.if-not-have_no_rest.false)
 
 pub objects::object_pattern-returns-clause-only : goal.objects::object_pattern-returns-clause-only
 objects::object_pattern-returns-clause-only t c =
-    object_one c.args.properties c.in-Some.properties _ c.in_ok-new.ensures
+    object_one c.args.properties c.in-Some.properties _ c.in_ok-properties-2.ensures
     (made_one (InPairs CoversProperty) _ c.args.properties c.into_inner.ensures _ c.in-Some.properties c.in-Some.is c.in_ok-properties.ensures.only)

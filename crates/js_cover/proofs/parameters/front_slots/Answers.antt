@@ -8,10 +8,10 @@ use Rattle.js_cover.proofs.parameters.front_slots.Goals as goal
 pub loop-listed-init : goal.loop-listed-init
 loop-listed-init c = loop_start (ElementPair CoversSlot) c.args.front _ _ (c.in_ok-left.ensures {u = tt}) c.new-slots.ensures
 
-pub returns-in_default-clause-only : goal.returns-in_default-clause-only
-returns-in_default-clause-only c =
+pub returns-in_default-2-clause-only : goal.returns-in_default-2-clause-only
+returns-in_default-2-clause-only c =
     loop_none (ElementPair CoversSlot) c.args.front c.loop-listed.left _ c.loop-listed.slots c.in-Some.listed c.in-Some.ensures c.loop-listed.invariant
-    (made_no (ElementPair CoversSlot) _ _ refl _ (none_of _ c.in_default.not-Some) c.in_ok-item.ensures.only)
+    (made_no (ElementPair CoversSlot) _ _ refl _ (none_of _ c.in_default-2.not-Some) c.in_ok-item.ensures.only)
 
 pub loop-listed-smaller : goal.loop-listed-smaller
 loop-listed-smaller c = taken_shorter _ _ c.in-Some.listed c.in-Some.ensures
