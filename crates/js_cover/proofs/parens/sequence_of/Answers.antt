@@ -27,6 +27,12 @@ loop-listed-preserved-in_ok-push-2 c = record {
   others = others_step c.loop-listed.front _ c.in-Some.listed c.loop-listed.first c.loop-listed.others _ c.in-Some.ensures c.in_ok-push.ensures.ok ∙ c.loop-listed.invariant.others;
 }
 
+pub loop-listed-preserved : goal.loop-listed-preserved
+loop-listed-preserved c = record {
+  first = first_step c.loop-listed.front _ c.in-Some.listed c.loop-listed.first c.in-Some.ensures ∙ c.loop-listed.invariant.first;
+  others = others_step c.loop-listed.front _ c.in-Some.listed c.loop-listed.first c.loop-listed.others _ c.in-Some.ensures c.in_ok-push.ensures.ok ∙ c.loop-listed.invariant.others;
+}
+
 pub returns : goal.returns
 returns c = record {
   first = ap (λ xs. first_of xs c.loop-listed.first) (sym (c.in_default.ensures {u = tt}).0) ∙ c.loop-listed.invariant.first;
